@@ -91,9 +91,12 @@ def recorded_in(path: Path) -> List[Tuple[str, Path]]:
 LOCKS, COPIED = Path("/run/hq-desk.locks"), Path("/run/hq-desk.copied")
 
 
-# Who is moved from one desk to another, until that is done (desk-start reads it too); and its steps: the first store has all rows, or
-# both have them and the second counts.
-MOVING, IS_ASKED, IS_COPIED = ".customers.moving", "asked", "copied"
+# The marks of those that desk-stop has stopped, and in the same folder those of the desks of a move. (No desk's name has a dot.)
+STOPPED, OF_A_MOVE = Path("/var/lib/hq-desk-stopped"), "{}.moving"
+
+# Who is moved from one desk to another, until that is done (desk-start reads it too); its steps: the first store has all rows, or
+# both have them and the second counts; and whether desks are stopped for it, or files alone are written.
+MOVING, IS_ASKED, IS_COPIED, OF_DESKS, OF_FILES = ".customers.moving", "asked", "copied", "desks", "files"
 
 
 class Move(NamedTuple):
@@ -103,21 +106,32 @@ class Move(NamedTuple):
     source: str
     target: str
     step: str
+    kind: str = OF_FILES
+
+    def is_over(self) -> bool:
+        """Whether no desk is stopped for it any more, as where a copy of /etc/hq has brought the mark back."""
+        return self.kind == OF_DESKS and not any((STOPPED / OF_A_MOVE.format(it)).exists() for it in (self.source, self.target))
 
     def told(self) -> str:
         return (f"the move of {self.customer} from {self.source} to {self.target} was stopped on the way: "
                 f"type `hq-customers move {self.customer} --desk {self.target}` again")
 
 
-def under_way(folder: Path) -> Optional[Move]:
+def marked(folder: Path) -> Optional[Move]:
     """The move whose mark is there."""
     path = folder / MOVING
     if not path.exists():
         return None
     words = path.read_text().split()
-    if len(words) != len(Move._fields):
+    if len(words) not in (len(Move._fields) - 1, len(Move._fields)):
         raise ValueError(f"{path} has no customer, two desks and a step")
     return Move(*words)
+
+
+def under_way(folder: Path) -> Optional[Move]:
+    """The move that is under way, or that was stopped."""
+    move = marked(folder)
+    return None if move is None or move.is_over() else move
 
 
 @contextlib.contextmanager

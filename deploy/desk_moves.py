@@ -15,21 +15,22 @@ from pathlib import Path
 from typing import List, Optional
 
 import desk_programs
-from desk_apart import IS_ASKED, IS_COPIED, MOVING, Move, alone, run_apart, under_way
+from desk_apart import IS_ASKED, IS_COPIED, MOVING, OF_A_MOVE, OF_DESKS, OF_FILES, STOPPED, Move, alone, marked, run_apart, under_way
 from desk_files import FURTHER, Desk, Folder, Refused, sync
 
-# The marks of those that desk-stop has stopped, and in the same folder those of the desks of a move. (No desk's name has a dot.)
-STOPPED, OF_A_MOVE = Path("/var/lib/hq-desk-stopped"), "{}.moving"
 # What works at stores, and would find the customer in both, or in none. (erase-again is for a store that comes back meanwhile.)
 OF_STORES = "erase", "retain", "compare"
+OF_WORKER = "hq-relay-intake", "hq-relay-deliver"
 # In seconds: how long nginx takes at most to tell its processes that others go by new files.
 RELOADS = 0.5
 
 
-def refuse_meanwhile(folder: Path, command: str, name: Optional[str]) -> None:
-    """Refuses what would change the records of a customer whose move was stopped."""
+def refuse_meanwhile(folder: Path, command: str, name: Optional[str], desk: Optional[str]) -> None:
+    """Refuses what would change the records of a customer whose move was stopped. (What keeps them from the second store may be erased
+    there, as long as the first one counts.)"""
     going = under_way(folder)
-    if going and (command in OF_STORES or name == going.customer):
+    is_in_the_way = going and command == "erase" and (name, desk, going.step) == (going.customer, going.target, IS_ASKED)
+    if going and not is_in_the_way and (command in OF_STORES or name == going.customer):
         raise Refused(going.told())
 
 
@@ -62,9 +63,10 @@ def move(scripts: Path, folder: Folder, given: argparse.Namespace, its_desk: Des
         raise Refused(going.told())
     if not going and its_desk is target:
         print(f"{given.name} is at {target.name} already")
+        end(scripts, folder, given.name)
         return
     is_new = going is None
-    going = going or Move(given.name, its_desk.name, target.name, IS_COPIED if given.same_firm else IS_ASKED)
+    going = going or Move(given.name, its_desk.name, target.name, IS_COPIED if given.same_firm else IS_ASKED, OF_FILES if given.files else OF_DESKS)
     if is_new:
         refuse(folder, given, its_desk, target)
     carry(folder, going)
@@ -78,6 +80,16 @@ def move(scripts: Path, folder: Folder, given: argparse.Namespace, its_desk: Des
     print(f"{given.name} is at {target.name} now")
 
 
+def end(scripts: Path, folder: Folder, name: str) -> None:
+    """Ends what is left of a move that was stopped behind its last step: a mark, and desks that were to start."""
+    left = marked(folder.path)
+    if left and left.customer == name:
+        faults = [*desk_programs.reload_all(), *start(scripts, [it.name for it in folder.desks if it.name in (left.source, left.target)])]
+        unmark(folder.path)
+        if faults:
+            raise Refused(" / ".join(faults))
+
+
 def refuse(folder: Folder, given: argparse.Namespace, source: Desk, target: Desk) -> None:
     """Refuses what is known to fail, by the files alone."""
     if len(source.rows) == 1:
@@ -88,6 +100,10 @@ def refuse(folder: Folder, given: argparse.Namespace, source: Desk, target: Desk
             raise Refused(f"{desk.name} has no store, and nothing was changed: start it once")
         if not given.files and (STOPPED / desk.name).exists():
             raise Refused(f"{desk.name} is kept stopped, and nothing was changed: `desk-start {desk.name}` comes first")
+    # (what becomes of mail under way would be told of another message, of that ID)
+    if given.same_firm and not given.files and any(map(desk_programs.is_active, OF_WORKER)):
+        raise Refused("the worker runs, and nothing was changed: `desk-stop relay` comes first; and `hq-as hqrelay hq-relay /etc/hq/relay.ini "
+                      f"restored {target.name}` and `desk-start relay` behind this")
 
 
 def refuse_stores(scripts: Path, given: argparse.Namespace, going: Move) -> None:
