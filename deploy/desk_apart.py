@@ -135,8 +135,9 @@ def under_way(folder: Path) -> Optional[Move]:
 
 
 @contextlib.contextmanager
-def alone(name: str, who: str) -> Iterator[None]:
-    """Nobody else starts the desk meanwhile, copies its store, or works at it. `who` tells where it waits. For root."""
+def alone(name: str, who: str) -> Iterator[int]:
+    """Nobody else starts the desk meanwhile, copies its store, or works at it. `who` tells where it waits. For root. The file that it
+    gives is handed to what goes on behind a kill of this process: it has the lock as long as that."""
     # (whoever may open a file may lock it: nobody else opens these)
     LOCKS.mkdir(mode=0o700, exist_ok=True)
     LOCKS.chmod(0o700)
@@ -148,7 +149,7 @@ def alone(name: str, who: str) -> Iterator[None]:
             fcntl.flock(file, fcntl.LOCK_EX)
         # (of a copy that was killed)
         (COPIED / name).unlink(missing_ok=True)
-        yield
+        yield file.fileno()
 
 
 def find_programs() -> None:

@@ -144,9 +144,8 @@ def do(scripts: Path, folder: Folder, given: argparse.Namespace, going: Move) ->
     try:
         stop(desks)
         with contextlib.ExitStack() as locks:
-            for it in desks:
-                locks.enter_context(alone(it, "hq-customers"))
-            move_rows(scripts, folder.path, given.store, going)
+            held = [locks.enter_context(alone(it, "hq-customers")) for it in desks]
+            move_rows(scripts, folder.path, given.store, going, held)
             folder.write(scripts)
     except (Refused, OSError, ValueError, subprocess.SubprocessError) as fault:
         call_off(scripts, given, desks, going, str(fault))
@@ -207,21 +206,26 @@ def start(scripts: Path, desks: List[str]) -> List[str]:
     return faults
 
 
-def move_rows(scripts: Path, folder: Path, store: Path, going: Move) -> None:
+def move_rows(scripts: Path, folder: Path, store: Path, going: Move, locks: List[int]) -> None:
     """Moves all rows of the customer. What the first store has is all of it until the mark says that it is copied: then the copy is."""
     if going.step == IS_ASKED:
-        rows(scripts, store, "--copy", going)
+        rows(scripts, store, "--copy", going, locks)
         mark(folder, going._replace(step=IS_COPIED))
-    if rows(scripts, store, "--take", going).endswith("none there"):
+    if rows(scripts, store, "--take", going, locks).endswith("none there"):
         print(f"no store has records of {going.customer}: if it had some, restore {going.target} from a copy that has them", file=sys.stderr)
 
 
-def rows(scripts: Path, store: Path, step: str, going: Move) -> str:
+# It waits for a command, and has the locks meanwhile, which that command's user does not get.
+WAITS = "sh", "-c", '"$@"; exit "$?"', "sh"
+
+
+def rows(scripts: Path, store: Path, step: str, going: Move, locks: List[int]) -> str:
     """A step of move-customer, as the user of the desks."""
     paths = [store.absolute() / f"{it}.db" for it in (going.source, going.target)]
     words = [scripts / "move-customer", step, *paths, going.customer]
     # (what is sent to those of this terminal does not end it)
-    ended = run_apart([scripts / "hq-as", "hqdesk", *words] if os.geteuid() == 0 else words, start_new_session=True)
+    as_desk = [*WAITS, scripts / "hq-as", "hqdesk", *words] if os.geteuid() == 0 else words
+    ended = run_apart(as_desk, start_new_session=True, pass_fds=locks)
     if ended.returncode:
         told = " / ".join(ended.stderr.strip().splitlines())
         raise Refused(told or f"move-customer ended with {ended.returncode}")

@@ -1,12 +1,14 @@
 """What a move leaves beside others: who stops a desk meanwhile, a store or settings of before that come back, and a mark that is over."""
 import contextlib
+import os
 import shutil
 import sqlite3
+import subprocess
 
 import needs
 import pytest
 from moving import TABLES, Moves
-from serving import expect
+from serving import expect, until
 
 
 @pytest.fixture
@@ -66,6 +68,20 @@ def test_a_store_that_comes_back_meanwhile(place, step):
     (place.folder / ".customers.moving").write_text("dale north south copied\n")
     ended = place.move()
     expect("no store has records of dale" in ended.stderr, step, "nothing is told of what is lost:", ended)
+
+
+def test_killed_while_rows_go(place):
+    """hq-customers is killed while rows are copied, which goes on: the same line waits for that, and ends the move."""
+    place.put(place.scripts / "slow-rows", (place.scripts / "move-customer").read_text())
+    place.put(place.scripts / "move-customer", f'#!/bin/sh\n: >{place.place}/moves\n[ "$1" != --copy ] || sleep 3\nexec "$(dirname "$0")/slow-rows" "$@"\n')
+    killed = subprocess.Popen(place.words("move", "dale", "--desk", "south"), stderr=subprocess.DEVNULL,
+                              env={**os.environ, "PATH": f"{place.bin}:{os.environ['PATH']}"})
+    until((place.place / "moves").exists, "no rows go")
+    killed.kill()
+    killed.wait()
+    ended = place.move()
+    expect(ended.returncode == 0 and "it waits for who works at the store of north" in ended.stderr, "it ended with", ended)
+    place.is_moved()
 
 
 def test_a_mark_from_a_copy(place):
