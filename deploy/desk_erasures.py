@@ -10,6 +10,10 @@ from desk_apart import under_way
 from desk_files import DESKS, MOMENT, Desk, Erased, Folder, Refused, erased_in, now, table_of
 
 
+# Where the lines are that an operator types.
+PAGE = "/usr/share/doc/hq-desk/PROCEDURES.md.gz"
+
+
 class Misplaced(NamedTuple):
     """A customer, a desk whose store has records of it, and the desk whose directory has it."""
 
@@ -36,7 +40,7 @@ def erase_again(scripts: Path, folder: Folder, desk: Desk, given: argparse.Names
     erased = "".join(f"{name} {since}\n" for name, since in sorted(erased_since(folder, desk, given.copy).items()))
     found = desk_programs.of_store(scripts, desk.name, given.store, "erase-again", "-", erased)
     print(f"the store of {desk.name}: {found[1] if found else 'there is none'}", flush=True)
-    refuse_misplaced(folder, misplaced(scripts, folder, given.store, desk.name))
+    refuse_misplaced(folder, misplaced(scripts, folder, given.store, desk.name), is_back=True)
     return []
 
 
@@ -98,12 +102,15 @@ def misplaced(scripts: Path, folder: Folder, stores: Path, desk: str) -> List[Mi
     return [Misplaced(name, desk, its[name]) for name in names if its.get(name, desk) != desk]
 
 
-def refuse_misplaced(folder: Folder, found: List[Misplaced]) -> None:
-    if found:
-        told = ", ".join(f"{desk} has records of {name}, who is at {place} by {folder.path}" for name, desk, place in found)
-        name, desk, _ = found[0]
-        raise Refused(f"{told}. If {folder.path} is from before a move, put its newest copy back. Else `hq-customers erase {name} --desk {desk}` "
-                      f"erases these, and `hq-customers move {name} --desk {desk} --same-firm` takes them, and erases the others")
+def refuse_misplaced(folder: Folder, found: List[Misplaced], is_back: bool = False) -> None:
+    """Prints the ways out for each. (The records of a store that has come back are of before.)"""
+    if not found:
+        return
+    told = ", ".join(f"{desk} has records of {name}, who is at {place} by {folder.path}" for name, desk, place in found)
+    ways = " && ".join(f"hq-customers erase {name} --desk {desk}" for name, desk, _ in found)
+    taken = "" if is_back else ("; and `hq-customers move NAME --desk DESK --same-firm` moves one of them to the desk that has these records, and "
+                                f"erases the others (\"Backup of the keys\" in {PAGE})")
+    raise Refused(f"{told}. If {folder.path} is from before a move, put its newest copy back. Else `{ways}` erases these{taken}")
 
 
 def moment_of(text: str) -> datetime:

@@ -28,13 +28,13 @@ def opened(path: str, is_earlier_too: bool = False) -> sqlite3.Connection:
     store = sqlite3.connect(path, timeout=0, isolation_level=None)
     store.execute("PRAGMA synchronous = FULL")
     store.execute("PRAGMA secure_delete = ON")
-    names, (version,) = tables_in(store), store.execute("SELECT max(version) FROM desk_schema").fetchone()
-    if not {SCHEMA, "heads"} <= names <= {SCHEMA, *TABLES} or not isinstance(version, int) or not 1 <= version <= VERSION:
+    names, version = tables_in(store), 0
+    if {SCHEMA, "heads"} <= names <= {SCHEMA, *TABLES}:
+        (version,), = store.execute(f"SELECT max(version) FROM {SCHEMA}")
+    if version not in range(1, VERSION + 1) or (version == VERSION and len(names) <= len(TABLES)):
         raise Refused(f"{path} is no store of this release")
     if version < VERSION and not is_earlier_too:
         raise Refused(f"{path} is a store of an earlier release: `hq migrate` comes first")
-    if version == VERSION and len(names) <= len(TABLES):
-        raise Refused(f"{path} is no store of this release")
     return store
 
 
