@@ -103,7 +103,7 @@ def refuse(folder: Folder, given: argparse.Namespace, source: Desk, target: Desk
     # (what becomes of mail under way would be told of another message, of that ID)
     if given.same_firm and not given.files and any(map(desk_programs.is_active, OF_WORKER)):
         raise Refused("the worker runs, and nothing was changed: `desk-stop relay` comes first; and `hq-as hqrelay hq-relay /etc/hq/relay.ini "
-                      f"restored {target.name}` and `desk-start relay` behind this")
+                      f"restored {target.name} --copied \"$(date -u +%FT%TZ)\"` and `desk-start relay` behind this")
 
 
 def refuse_stores(scripts: Path, given: argparse.Namespace, going: Move) -> None:

@@ -14,8 +14,10 @@ It is not proved, as the desk is: what it may lose or double at each stop is wri
                         intake and deliver have read them
     knows NAME          the status is 0 where there is anything of a customer, and 3 where there is
                         not
-    restored [DESK]     fits the book to a desk whose store came back from a backup, while neither
-                        intake nor deliver runs; of several desks it is named
+    restored [DESK] [--copied MOMENT]
+                        fits the book to a desk whose store came back from a backup, while neither
+                        intake nor deliver runs; of several desks it is named. MOMENT is when the
+                        store was copied, as 2026-12-01T10:00:00Z
 
 docs/RELAY.md explains it. The status is 2 for bad settings or words, and 1 for all else that was
 not done.
@@ -41,6 +43,7 @@ from hq_relay.intake.submission import Intake
 from hq_relay.postfix.delivering_instance import capacity
 from hq_relay.postfix.installation import install
 from hq_relay.settings import BadSettings, Settings, load
+from hq_relay.settings_values import moment
 from hq_relay.storage.book import Book
 from hq_relay.storage.desk_restore import DeskRestore
 from hq_relay.storage.spool import Spool
@@ -263,7 +266,7 @@ def unknown(settings: Settings, is_removing: bool) -> int:
     return 0
 
 
-def restored(settings: Settings, desk: str | None = None) -> int:
+def restored(settings: Settings, desk: str | None = None, copied: float | None = None) -> int:
     """The command `restored`; its status. Customers of other desks have all that they had."""
     place = Workplace(settings)
     locks = place.locked("intake", "deliver")
@@ -279,13 +282,12 @@ def restored(settings: Settings, desk: str | None = None) -> int:
         log.error("no customer of this desk", desk=desk, help="desks.csv has the desks, if "
                   "`desks` names it; the only desk needs no name")
         return 1
-    DeskRestore(place.settings, place.desk, place.spool, place.book).restore(customers)
+    DeskRestore(place.settings, place.desk, place.spool, place.book, copied).restore(customers)
     return 0
 
 
 # The commands that take a name.
-NAMED: dict[str, Callable[[Settings, str], int]] = {
-    "erase": erase, "knows": knows, "restored": restored}
+NAMED: dict[str, Callable[[Settings, str], int]] = {"erase": erase, "knows": knows}
 # The commands of root itself: they write to both instances of Postfix, or nothing at all.
 AS_ROOT = ("install", "settings")
 COMMANDS: dict[tuple[str, ...], Callable[[Settings], int]] = {
@@ -298,7 +300,6 @@ COMMANDS: dict[tuple[str, ...], Callable[[Settings], int]] = {
     ("check",): check,
     ("unknown",): lambda settings: unknown(settings, False),
     ("unknown", "--remove"): lambda settings: unknown(settings, True),
-    ("restored",): restored,
 }
 
 
@@ -306,7 +307,23 @@ def command_of(words: list[str]) -> Callable[[Settings], int] | None:
     """The command of these words; None if there is none."""
     if len(words) == 2 and words[0] in NAMED:
         return lambda settings: NAMED[words[0]](settings, words[1])
+    if words[:1] == ["restored"]:
+        return restored_of(words[1:])
     return COMMANDS.get(tuple(words))
+
+
+def restored_of(words: list[str]) -> Callable[[Settings], int] | None:
+    """The command `restored` with these words; None for others."""
+    copied = None
+    if words[-2:-1] == ["--copied"]:
+        try:
+            copied = moment(words[-1])
+        except ValueError:
+            return None
+        words = words[:-2]
+    if len(words) > 1 or words[:1] == ["--copied"]:
+        return None
+    return lambda settings: restored(settings, words[0] if words else None, copied)
 
 
 def leave_root(settings: Settings, words: list[str]) -> None:

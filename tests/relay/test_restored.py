@@ -178,3 +178,26 @@ def round_of(it, *recipients):
         it.take("acme", one)
     it.postfix.empty()
     it.deliver()
+
+
+def test_gone_before_the_backup(program, shared):
+    """What the worker found in no list before the copy stays away, though its customer has no history; without that time it comes back."""
+    with Relay(program, shared) as it:
+        intake = it.intake()
+        for _ in range(3):
+            it.take("acme", f"p@{FAR}")
+        it.postfix.empty()
+        first = it.desk.messages("acme")[0]["id"]
+        it.desk.own("acme", "POST", "/v1/hold-all")
+        it.desk.own("acme", "DELETE", f"/v1/message/{first}")
+        it.deliver()
+        time.sleep(1.1)
+        copied = time.strftime("%Y-%m-%dT%H:%M:%SZ", time.gmtime())
+        copy_store(it, "", "kept.")
+        intake.kill()
+        copy_store(it, "kept.", "")
+        for words, queued in ((("--copied", copied), 2), ((), 3)):
+            restored = it.run("restored", *words)
+            restored.ends()
+            expect(len(it.desk.messages("acme")) == queued, words, "the queue has", it.desk.messages("acme"), restored.log.read_text())
+        it.run("restored", "--copied", "yesterday").ends(2)

@@ -38,10 +38,14 @@ class Departed:
 
 
 class DeskRestore:
-    """Intake and delivery are stopped meanwhile. It may be run again at any time."""
+    """Intake and delivery are stopped meanwhile. It may be run again at any time.
 
-    def __init__(self, settings: Settings, desk: Desk, spool: Spool, book: Book):
-        self.desk, self.spool, self.book = desk, spool, book
+    `copied` is when the store was copied: what was in no list before that had left the queue.
+    """
+
+    def __init__(self, settings: Settings, desk: Desk, spool: Spool, book: Book,
+                 copied: float | None = None):
+        self.desk, self.spool, self.book, self.copied = desk, spool, book, copied
         self.attempts = Attempts(book)
         self.names = SpoolNames(desk, spool, book)
 
@@ -123,6 +127,9 @@ class DeskRestore:
         """Submits mail again that was taken, and that the desk lost with its newest records."""
         for spool, known in self.book.uncleaned(customer).items():
             if spool in queued or known.is_finished or spool in left:
+                continue
+            if self.copied is not None and known.gone and known.gone < self.copied:
+                log.info("left before the backup", customer=customer, spool=spool)
                 continue
             with self.spool.opened(spool) as kept:
                 if not kept:
