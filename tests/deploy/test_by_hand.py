@@ -51,6 +51,9 @@ def test_settings_that_are_away(place):
         expect(ended.returncode == 1 and f"{place.folder}/south.env is missing, {place.folder}/south.db is there" in ended.stderr
                and "`hq-customers drop-desk south`" in ended.stderr and place.files() == before, words, "ended with", ended)
     expect("birch by hand" in place.done("--store", place.folder, "list"), "they are not listed")
+    # (it may be at another machine, and desk-maps may have been given that file)
+    ended = place.run("--store", place.folder, "drop-desk", "south")
+    expect(ended.returncode == 1 and "south.csv is there" in ended.stderr and place.files() == before, "a directory that is there:", ended)
     (place.folder / "aside").rename(place.folder / "south.env")
     ended = place.run("--store", place.folder, "drop-desk", "south")
     expect(ended.returncode == 1 and "south.env is there" in ended.stderr, "a desk that is there:", ended)
