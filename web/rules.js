@@ -105,9 +105,9 @@ async function undo(before, after) {
   return sayAndLoad(text("ruleUndone"), load);
 }
 
-// Offers to undo a change, beside what is told of it. `before` has the patterns that it touched.
-function offerUndo(before) {
-  const after = before.map((it) => ({ ...it, action: actionOf(it) }));
+// Offers to undo a change, beside what is told of it. Both have the patterns that it touched. (What
+// is loaded behind the change may have one of somebody else's already.)
+function offerUndo(before, after) {
   const does = () => trying(() => undo(before, after));
   by("told").append(button(text("undo"), does, { id: "undo-rule" }));
 }
@@ -118,7 +118,7 @@ async function drop(line) {
   try {
     await call("POST", "/v1/line-drop", { class: line.class, pattern: line.pattern });
     await sayAndLoad(text("dropped", { rule: spoken(line) }), load);
-    offerUndo([line]);
+    offerUndo([line], [{ ...line, action: null }]);
   } catch (fault) {
     await sayAndLoad(fault, load);
   }
@@ -209,7 +209,8 @@ async function put() {
   await sayAndLoad(fault ?? text(`put_${reply.put}`, { rule: spoken(line) }), load);
   // (where somebody else has set it meanwhile, nobody here knows how it was)
   const wasKnown = (reply.put === "added") === (before[0].action === null);
-  if (wasKnown && reply.put !== "same") offerUndo(before);
+  const left = before.slice(1).map((it) => ({ ...it, action: fault ? it.action : null }));
+  if (wasKnown && reply.put !== "same") offerUndo(before, [line, ...left]);
   const queued = line.action.startsWith("REJECT") && line.pattern !== "<>" && await queuedOf(line);
   if (queued) by("told").append(queued);
 }
