@@ -57,9 +57,9 @@ def schema_of(path: str) -> int:
         end = time.monotonic() + LONGEST_LOOK
         store.set_progress_handler(lambda: time.monotonic() > end, 10_000)
         store.execute("PRAGMA locking_mode = EXCLUSIVE")
-        if not store.execute("SELECT 1 FROM sqlite_master WHERE type = 'table' AND name = 'desk_schema'").fetchone():
+        if not store.execute("SELECT 1 FROM sqlite_master WHERE type = 'table' AND name = ?", (SCHEMA,)).fetchone():
             raise Refused(f"{path} is no store")
-        (version,), = store.execute("SELECT version FROM desk_schema").fetchmany(2)
+        (version,), = store.execute(f"SELECT version FROM {SCHEMA}").fetchmany(2)
     return int(version)
 
 

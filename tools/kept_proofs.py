@@ -1,23 +1,16 @@
 """Proofs that another clone has kept, in a folder that is handed in by HQ_PROOFS: of each crate its out/ as NAME.tar, with its sum in
 SHA256SUMS. Whoever wrote the folder vouches for them."""
-import hashlib
 import os
 import shutil
 import sys
 import tarfile
 from pathlib import Path
 
+from packing import sum_of
+
 SUMS, HANDED_IN = "SHA256SUMS", "HQ_PROOFS"
 # The file of out/ that names the folder from which a proof was taken; ./release says so in PROVED.
 TAKEN = "taken-from"
-
-
-def sum_of(path: Path) -> str:
-    found = hashlib.sha256()
-    with open(path, "rb") as file:
-        for piece in iter(lambda: file.read(1 << 20), b""):
-            found.update(piece)
-    return found.hexdigest()
 
 
 def sums_in(folder: Path) -> dict:
