@@ -91,8 +91,9 @@ def recorded_in(path: Path) -> List[Tuple[str, Path]]:
 LOCKS, COPIED = Path("/run/hq-desk.locks"), Path("/run/hq-desk.copied")
 
 
-# The marks of those that desk-stop has stopped, and in the same folder those of the desks of a move. (No desk's name has a dot.)
-STOPPED, OF_A_MOVE = Path("/var/lib/hq-desk-stopped"), "{}.moving"
+# The marks of those that desk-stop has stopped, and in the same folder those of the desks of a move; those of desks whose stores are being
+# put back, and of those that have started by such a store, to which the worker's book is still to be fitted. (No desk's name has a dot.)
+STOPPED, OF_A_MOVE, OF_A_RESTORE, OF_A_FIT = Path("/var/lib/hq-desk-stopped"), "{}.moving", "{}.restoring", "{}.fitting"
 
 # Who is moved from one desk to another, until that is done (desk-start reads it too); its steps: the first store has all rows, or
 # both have them and the second counts; and whether desks are stopped for it, or files alone are written.
@@ -126,6 +127,12 @@ def marked(folder: Path) -> Optional[Move]:
     if len(words) not in (len(Move._fields) - 1, len(Move._fields)):
         raise ValueError(f"{path} has no customer, two desks and a step")
     return Move(*words)
+
+
+def restoring(desk: str) -> str:
+    """Why nobody works at the store of a desk: it is being put back; empty, where it is not."""
+    told = f"the store of {desk} is being put back: `hq-restore` without words goes on with that"
+    return told if (STOPPED / OF_A_RESTORE.format(desk)).exists() else ""
 
 
 def under_way(folder: Path) -> Optional[Move]:

@@ -1,6 +1,7 @@
 """Records in the stores of desks that are nobody's there any more, for hq-customers: of who was erased since a copy of a store was made,
 or is a customer of another desk."""
 import argparse
+import sys
 from datetime import datetime, timezone
 from pathlib import Path
 from typing import Dict, List, NamedTuple, Optional
@@ -36,11 +37,15 @@ def erase_at(scripts: Path, folder: Folder, given: argparse.Namespace) -> None:
 def erase_again(scripts: Path, folder: Folder, desk: Desk, given: argparse.Namespace) -> List[Desk]:
     """Erases in the store of a desk, which a backup of before has brought back, whoever was erased since then."""
     if given.copy:
-        refuse_earlier(folder, desk, given.copy)
+        if not list_of(given.copy, desk.name, "erased").exists():
+            raise Refused(f"{given.copy} has no list of who was erased, as that of an earlier release: type the same without --copy")
+        refuse_earlier(folder, desk, given.copy, given.without)
     erased = "".join(f"{name} {since}\n" for name, since in sorted(erased_since(folder, desk, given.copy).items()))
     found = desk_programs.of_store(scripts, desk.name, given.store, "erase-again", "-", erased)
     print(f"the store of {desk.name}: {found[1] if found else 'there is none'}", flush=True)
-    refuse_misplaced(folder, misplaced(scripts, folder, given.store, desk.name), is_back=True)
+    # (they are in nobody's way, and whoever is at another desk by settings of before would lose them)
+    if others := misplaced(scripts, folder, given.store, desk.name):
+        print(f"This was left as it is: {ways_of(folder, others)}", file=sys.stderr, flush=True)
     return []
 
 
@@ -52,7 +57,8 @@ def compare(scripts: Path, folder: Folder, stores: Path) -> List[Desk]:
         with desk_programs.kept_for_later(faults):
             found += misplaced(scripts, folder, stores, desk)
     desk_programs.told_at_last(faults)
-    refuse_misplaced(folder, found)
+    if found:
+        raise Refused(ways_of(folder, found))
     print("each store has records of its own customers alone")
     return []
 
@@ -61,7 +67,7 @@ def erased_since(folder: Folder, desk: Desk, copy: Optional[Path]) -> Dict[str, 
     """Whoever was erased, with the second up to which its records go; or `-` for all of them, where the copy of the store tells that
     it is of before that erasure."""
     if copy:
-        before = erased_in(copied(copy, desk, "erased"))
+        before = erased_in(list_of(copy, desk.name, "erased"))
         return {name: "-" for name, it in folder.erased.items() if not is_same(before.get(name), it)}
     # (by a moment that is still to come, of a clock that ran ahead, all that a customer has would be older)
     if to_come := [f"{name} at {it.moment}" for name, it in sorted(folder.erased.items()) if it.moment > now()]:
@@ -74,19 +80,24 @@ def is_same(before: Optional[Erased], after: Erased) -> bool:
     return before is not None and (before.erasure == after.erasure if after.erasure else before == after)
 
 
-def copied(copy: Path, desk: Desk, what: str) -> Path:
-    path = copy / f"{desk.name}.{what}.csv"
-    if not path.exists():
-        raise Refused(f"{path} is missing, as it is of a copy that an earlier release made, or a snapshot: type the same without --copy")
-    return path
+def list_of(copy: Path, desk: str, what: str) -> Path:
+    """The table that desk-backup has written beside a copy. (A copy of an earlier release has none, nor has a snapshot.)"""
+    return copy / f"{desk}.{what}.csv"
 
 
-def refuse_earlier(folder: Folder, desk: Desk, copy: Path) -> None:
+def refuse_earlier(folder: Folder, desk: Desk, copy: Path, given_up: List[str]) -> None:
     """Refuses a copy of a desk from before somebody moved there: its records are in it no more."""
-    at = dict(table_of(copied(copy, desk, "desks"), DESKS))
-    moved = sorted(row["name"] for row in desk.rows if at.get(row["name"], desk.name) != desk.name)
+    at = dict(table_of(list_of(copy, desk.name, "desks"), DESKS))
+    moved = sorted({row["name"] for row in desk.rows if at.get(row["name"], desk.name) != desk.name} - {*given_up})
     if moved:
-        raise Refused(f"this copy of {desk.name} is from before {', '.join(moved)} moved there, and has nothing of them: take a later one")
+        raise Refused(f"this copy of {desk.name} is from before {', '.join(moved)} moved there, and has nothing of them: take a later one. If there "
+                      f"is none, {' '.join(f'--without {it}' for it in moved)} gives up what they had")
+
+
+def later(desk: Desk, copy: Path) -> List[str]:
+    """The customers of a desk who came after a copy was made."""
+    known = {it[0] for it in table_of(list_of(copy, desk.name, "desks"), DESKS)}
+    return sorted(row["name"] for row in desk.rows if row["name"] not in known)
 
 
 def places_of(folder: Folder) -> Dict[str, str]:
@@ -102,15 +113,12 @@ def misplaced(scripts: Path, folder: Folder, stores: Path, desk: str) -> List[Mi
     return [Misplaced(name, desk, its[name]) for name in names if its.get(name, desk) != desk]
 
 
-def refuse_misplaced(folder: Folder, found: List[Misplaced], is_back: bool = False) -> None:
-    """Prints the ways out for each. (The records of a store that has come back are of before.)"""
-    if not found:
-        return
+def ways_of(folder: Folder, found: List[Misplaced]) -> str:
+    """Whose records are at which desk, and the ways out for each."""
     told = ", ".join(f"{desk} has records of {name}, who is at {place} by {folder.path}" for name, desk, place in found)
     ways = " && ".join(f"hq-customers erase {name} --desk {desk}" for name, desk, _ in found)
-    taken = "" if is_back else ("; and `hq-customers move NAME --desk DESK --same-firm` moves one of them to the desk that has these records, and "
-                                f"erases the others (\"Backup of the keys\" in {PAGE})")
-    raise Refused(f"{told}. If {folder.path} is from before a move, put its newest copy back. Else `{ways}` erases these{taken}")
+    return (f"{told}. If {folder.path} is from before a move, put its newest copy back. Else `{ways}` erases these; and `hq-customers move NAME "
+            f"--desk DESK --same-firm` moves one of them to the desk that has these records, and erases the others (\"Backup of the keys\" in {PAGE})")
 
 
 def moment_of(text: str) -> datetime:

@@ -15,7 +15,7 @@ from pathlib import Path
 from typing import List, Optional
 
 import desk_programs
-from desk_apart import IS_ASKED, IS_COPIED, MOVING, OF_A_MOVE, OF_DESKS, OF_FILES, STOPPED, Move, alone, marked, run_apart, under_way
+from desk_apart import IS_ASKED, IS_COPIED, MOVING, OF_A_MOVE, OF_DESKS, OF_FILES, STOPPED, Move, alone, marked, restoring, run_apart, under_way
 from desk_files import FURTHER, Desk, Folder, Refused, sync
 
 # What works at stores, and would find the customer in both, or in none. (erase-again is for a store that comes back meanwhile.)
@@ -65,6 +65,8 @@ def move(scripts: Path, folder: Folder, given: argparse.Namespace, its_desk: Des
         print(f"{given.name} is at {target.name} already")
         end(scripts, folder, given.name)
         return
+    if why := next(filter(None, map(restoring, (its_desk.name, target.name))), None):
+        raise Refused(why)
     is_new = going is None
     going = going or Move(given.name, its_desk.name, target.name, IS_COPIED if given.same_firm else IS_ASKED, OF_FILES if given.files else OF_DESKS)
     if is_new:

@@ -31,6 +31,12 @@ def is_active(unit: str) -> bool:
     return not subprocess.run(["systemctl", "is-active", "--quiet", unit], stdin=subprocess.DEVNULL, start_new_session=True).returncode
 
 
+def is_wanted(unit: str) -> bool:
+    """Whether a unit runs, or starts at a boot."""
+    asked = ["systemctl", "--quiet", "is-enabled", unit]
+    return is_active(unit) or not subprocess.run(asked, stdin=subprocess.DEVNULL, stderr=subprocess.DEVNULL).returncode
+
+
 def go_on() -> None:
     """Whoever closes the terminal, or stops this, does not keep what is written from being taken up: an old key would go on."""
     # (what is begun here would inherit that signals are ignored, and so they are handled)
@@ -134,8 +140,7 @@ def units_of(desk: str) -> List[str]:
 
 def has_unit(desk: str) -> bool:
     """Whether a unit of a desk runs, or starts at a boot."""
-    asked = (subprocess.run(["systemctl", "--quiet", "is-enabled", it], stdin=subprocess.DEVNULL, stderr=subprocess.DEVNULL) for it in units_of(desk))
-    return shutil.which("systemctl") is not None and (any(map(is_active, units_of(desk))) or any(not it.returncode for it in asked))
+    return shutil.which("systemctl") is not None and any(map(is_wanted, units_of(desk)))
 
 
 def end(desks: List[str]) -> None:

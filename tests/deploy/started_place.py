@@ -31,12 +31,12 @@ esac
 sh -c "$(sed "s#%i#$name#g" "{folder}/condition")" || exit 0
 : >"{folder}/runs-$name"
 port=$(sed -n 's/^LISTEN=.*://p' {folder}/$name.env)
-sleep 1 && exec python3 -c "import socket, sys, time; where = sys.argv[1]
+sleep 1 && exec setsid python3 -c "import socket, sys, time; where = sys.argv[1]
 it = socket.socket(socket.AF_INET if where.isdecimal() else socket.AF_UNIX)
 it.setsockopt(socket.SOL_SOCKET, socket.SO_REUSEADDR, 1)
 it.bind(('127.0.0.1', int(where)) if where.isdecimal() else where)
 it.listen()
-time.sleep(20)" $port >/dev/null 2>&1 &
+time.sleep(60)" $port >/dev/null 2>&1 &
 echo $! >"{folder}/pid-$name"
 """
 # What copies a store, and takes as long as the file `slow` is there.

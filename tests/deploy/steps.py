@@ -16,10 +16,10 @@ SCRIPTS = "/usr/libexec/hq-desk"
 STOPS = re.compile(rf"{SCRIPTS}/desk-stop ")
 # The line that stops both desks of a move, and starts them.
 MOVES = re.compile(r"hq-customers move ")
-# What stops and starts the worker.
-OF_WORKER = re.compile(rf"{SCRIPTS}/desk-(?:stop|start) relay$")
-# What works at a store while nobody else does, as the user of the desks.
-RESTORES = f"{SCRIPTS}/desk-restart north --stopped --input "
+# What is done with the worker, which does not run here: tests/relay has that.
+OF_WORKER = re.compile(rf"{SCRIPTS}/desk-(?:stop|start) relay$|.*hq-relay")
+# What stops desks, puts their stores back, and starts them.
+RESTORES = re.compile(r"hq-restore ")
 PAGE = Path(__file__).resolve().parents[2] / "docs/PROCEDURES.md"
 
 
@@ -31,17 +31,25 @@ def lines_of(title):
     return [it.removesuffix(" &&") for it in found[1].replace("\\\n", " ").rstrip("\n").split("\n")]
 
 
-def scripts_in(folder, here):
-    """A folder with `desk-backup` as it is for the places of a test, beside others that do nothing."""
+def scripts_in(folder, here, customers="#!/bin/sh\n"):
+    """A folder with `desk-backup` and `hq-restore` as they are for the places of a test, beside others that do nothing, or run what they
+    are given as the user of the desks."""
     folder.mkdir()
-    text = (DEPLOY / "desk-backup").read_text()
-    for it, value in here.items():
-        expect(it in text, "desk-backup has no", it)
-        text = text.replace(it, str(value))
-    text = text.replace("systemctl stop", "true").replace("systemctl show", "true").replace("/run/hq-desk", str(folder / "run"))
-    for name, script in (("desk-backup", text), ("desk-stop", "#!/bin/sh\n"), ("desk-start", "#!/bin/sh\n"), ("desk-restart", "#!/bin/sh\n")):
-        (folder / name).write_text(script)
-        (folder / name).chmod(0o755)
+    for name in ("desk-backup", "hq-restore", "desk_apart.py", "desk_erasures.py", "desk_files.py", "desk_programs.py"):
+        text = (DEPLOY / name).read_text()
+        for it, value in here.items():
+            expect(name != "desk-backup" or it in text, "desk-backup has no", it)
+            text = text.replace(it, str(value))
+        text = text.replace("systemctl stop", "true").replace("systemctl show", "true").replace("/run/hq-desk", str(folder / "run"))
+        (folder / name).write_text(text.replace("/var/lib/hq-desk-stopped", str(folder / "stopped")))
+    as_desk = here["hq-as hqdesk "]
+    with_input = as_desk.replace("hq-as ", "hq-as --input ")
+    for name, script in (("desk-stop", ""), ("desk-start", ""), ("desk-restart", f'[ "$2" = --stopped ] || exit 0\nshift 3\nexec {with_input}"$@"\n'),
+                         ("hq-as", f'if [ "$1" = --input ]; then shift 2; exec {with_input}"$@"; fi\nshift\nexec {as_desk}"$@"\n'),
+                         ("hq-customers", customers)):
+        (folder / name).write_text(f"#!/bin/sh\n{script}")
+    for it in folder.iterdir():
+        it.chmod(0o755)
     return folder
 
 
@@ -50,10 +58,8 @@ class Place:
 
     def __init__(self, folder, program, desks, proxy):
         self.proxy, self.desks = proxy, {it.name: it for it in desks}
-        # (no worker runs here: tests/relay has what it does)
-        self.of_worker = []
         # (the program is called `hq`, as the package has it, and an upgrade writes over it)
-        there = {RESTORES: "", "/etc/hq": folder, "/var/lib/hqdesk": folder, "/usr/libexec/hq-desk": DEPLOY, "/usr/bin/hq": program,
+        there = {"/etc/hq": folder, "/var/lib/hqdesk": folder, "/usr/libexec/hq-desk": DEPLOY, "/usr/bin/hq": program,
                  "apt-get install -y \"${NEW:?}\"": f"install -m 755 \"$NEW\" {program}", "hq-as hqdesk ": "",
                  "hq-as --input hqdesk ": "", " -g hqdesk": "",
                  "hq-customers ": f"{DEPLOY}/hq-customers --folder {folder} --store {folder} "}
@@ -64,15 +70,16 @@ class Place:
         self.path = f"{Path(program).parent}:/usr/bin:/bin:/usr/sbin"
         shown = {f"127.0.0.1:{825 + it}": desk.address for it, desk in enumerate(desks)}
         self.here = {**there, **shown}
-        self.scripts = scripts_in(folder / "scripts", {"/etc/hq": folder, "/var/lib/hqdesk": folder, "hq-as hqdesk ": ""})
+        self.scripts = scripts_in(folder / "scripts", {"/etc/hq": folder, "/var/lib/hqdesk": folder, "hq-as hqdesk ": ""},
+                                  f'exec {there["hq-customers "]}"$@"\n')
 
     def run(self, title, after_stop=lambda: None, **names):
         """Runs a procedure; when the desks were stopped, and how long they were away."""
         stopped, paused = 0.0, 0.0
         for line in lines_of(title):
-            if "hq-relay" in line or OF_WORKER.match(line):
-                self.of_worker.append(line)
-            elif STOPS.match(line) or MOVES.match(line):
+            if OF_WORKER.match(line):
+                continue
+            if STOPS.match(line) or MOVES.match(line):
                 stopped = time.monotonic()
                 self.step(line, names) if STOPS.match(line) else self.of_desks("stop", self.desks.values())
                 begun = time.monotonic()
@@ -86,7 +93,9 @@ class Place:
         return stopped, time.monotonic() - stopped - paused
 
     def step(self, line, names):
-        if line == "nginx -t":
+        if RESTORES.match(line):
+            self.with_stopped([it for it in line.split() if it in self.desks], lambda: self.of_shell(f"{self.scripts}/{line}", names))
+        elif line == "nginx -t":
             self.of_shell(f"nginx -t -p {self.proxy.folder} -c {self.proxy.folder}/nginx.conf", names)
         elif line.startswith(f"{SCRIPTS}/desk-backup "):
             desks = [it for it in line.split() if it in self.desks]

@@ -7,7 +7,6 @@ import pytest
 from deploying import HEADER
 from serving import LONGEST, expect, listens, until
 from started_place import begin, is_set_up, place_in, run, runs, slow_copy, told, words
-from steps import lines_of
 
 
 @pytest.fixture
@@ -194,4 +193,3 @@ def test_a_store_that_is_lost(place):
             store.unlink()
         ended = run(place, "desk-backup", "--any", place / f"copy of {text}", "north")
         expect((ended.returncode, ended.stdout) == (0, wanted) and listens(address), "it ended with", ended)
-    expect(any(it.startswith("/usr/libexec/hq-desk/desk-backup --any ") for it in lines_of("Restore")), "the page has another line")

@@ -96,8 +96,6 @@ def emptied(desk):
 def restored(place, north, copy, before, load, stopped, there):
     """The copy in its place: what was answered before the stop, and nothing of later."""
     place.run("Restore", BACKUP=str(copy), ASIDE=str(copy.parent / "aside"))
-    stops, fits, starts = place.of_worker
-    expect("desk-stop relay" in stops and "restored" in fits and "desk-start relay" in starts, "the worker is not away:", place.of_worker)
     for name in NORTH:
         found = kept(north.address, name) - before[name]
         sure = load.ids(name, lambda it: it.answered < stopped)

@@ -1,17 +1,13 @@
 """What stops and starts desks: whatever is typed behind it reaches them, and two who do so at once do no harm."""
-import os
-import re
 import shutil
 import signal
 import subprocess
-import time
 
 import needs
 import pytest
 from deploying import DEPLOY, all_settings_of
 from serving import LONGEST, expect, free_address, listens, until
 from started_place import begin, condition_of, is_set_up, place_in, run, words
-from steps import lines_of
 
 
 @pytest.fixture
@@ -107,22 +103,6 @@ def test_worker(place):
     run(place, "desk-start", "relay")
     called = (place / "called").read_text().splitlines()
     expect(called[-1] == "start hq-relay-intake.service hq-relay-deliver.service" and not [*(place / "stopped").iterdir()], "called is", called)
-
-
-def test_order_of_a_restore(folder):
-    """The worker is kept stopped before its desk, and is started last, by the lines of the page; so it is where they are begun anew."""
-    lines = [it.removeprefix("/usr/libexec/hq-desk/") for it in lines_of("Restore")]
-    first, last = lines.index("desk-stop relay"), lines.index("desk-start relay")
-    expect(first < lines.index("desk-stop north") and last == len(lines) - 1 and "restored" in lines[last - 1], "the lines are", lines)
-    # (the moment of the copy is of a form that the worker reads)
-    said = re.search(r'--copied "(.*)"$', lines[last - 1])[1]
-    (folder / "north.tar").write_text("")
-    os.utime(folder / "north.tar", (1_790_000_000, 1_790_000_000))
-    told = subprocess.run(["sh", "-euc", f'echo "{said}"'], capture_output=True, text=True, env={**os.environ, "BACKUP": str(folder)})
-    expect(told.stdout == time.strftime("%Y-%m-%dT%H:%M:%SZ\n", time.gmtime(1_790_000_000)), "the copy was made at", told)
-    page = (DEPLOY.parent / "docs/PROCEDURES.md").read_text()
-    # (the copy is put back once: since the start of the desk its customers work by what is there)
-    expect("and go on with the line that failed, and all after it" in page and "all lines from `desk-restart`" not in page, "they begin anew otherwise")
 
 
 def test_stays_stopped():

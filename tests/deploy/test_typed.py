@@ -6,7 +6,7 @@ import subprocess
 import pytest
 from deploying import DEPLOY, all_settings_of
 from serving import LONGEST, expect
-from steps import lines_of, scripts_in
+from steps import scripts_in
 
 
 def lines_of_nginx(folder):
@@ -75,10 +75,10 @@ def test_a_new_release_of_debian(folder):
 
 
 def test_a_restore_is_on_the_disk():
-    """The line of Restore that writes holds the lock of the store, and syncs before it lets anybody else open it."""
-    line, = (it for it in lines_of("Restore") if "tar -x" in it)
-    expect(line.startswith("/usr/libexec/hq-desk/desk-restart north --stopped --input sh -c "), "the line is", line)
-    expect(re.search(r"rm -f north\.db\* && tar -x -p && sync north\.db\* \.' <", line), "the line is", line)
+    """hq-restore writes a store behind its lock, and syncs before it lets anybody else open it."""
+    script = (DEPLOY / "hq-restore").read_text()
+    expect(re.search(r'(?m)^PUTS_BACK = .*rm -f -- "\$0"\.db\* && tar -x -p -- "\$@" && sync -- "\$@" \.', script), "it puts back by another line")
+    expect('do(HERE / "desk-restart", desk, "--stopped", "--input", "sh", "-c", PUTS_BACK,' in script, "it has no lock")
 
 
 def test_postfix_waits_for_the_clock(folder):

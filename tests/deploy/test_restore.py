@@ -1,0 +1,262 @@
+"""`hq-restore` by its steps, wherever it fails or is killed: desks and worker stay stopped, nobody else works at the store, and the same command
+without words goes on, and puts back no store whose desk has started.
+
+Stores are files of text; stand-ins note what they are called with, and fail or wait where a test wants it.
+"""
+import os
+import shutil
+import signal
+import subprocess
+import tarfile
+import time
+
+import pytest
+from deploying import DEPLOY, HEADER
+from serving import expect, listens, until
+from started_place import is_set_up, place_in, run, words
+
+# What hq-restore calls, in their order, and each word by which a stand-in knows a step of its own.
+CALLS = """\
+#!/bin/sh
+echo "{name} $*" >>{folder}/steps
+[ ! -e {folder}/waits ] || case "{name} $*" in *"$(cat {folder}/waits)"*) : >{folder}/there; sleep 30 ;; esac
+[ ! -e {folder}/fails ] || case "{name} $*" in *"$(cat {folder}/fails)"*) exit 1 ;; esac
+"""
+STEPS = ("desk-stop", "desk-backup --any", "tar -x", "erase-again", "migrate", "desk-start north", "restored", "desk-start relay")
+OTHER = HEADER + "acme,acmekey000000001,1000,500000000,1000,1000,14400\n"
+
+
+class Place:
+    """A folder with the scripts, a desk north that runs, a worker, and a copy of north's store."""
+
+    def __init__(self, folder):
+        self.folder = place_in(folder)
+        self.scripts = folder / "bin"
+        for name in ("hq-restore", "desk_erasures.py", "desk_programs.py"):
+            text = (DEPLOY / name).read_text()
+            for it, here in (("/var/lib/hq-desk-stopped", "stopped"), ("/etc/hq", ""), ("/var/lib/hqdesk", "stores")):
+                text = text.replace(it, str(folder / here) if here else str(folder))
+            self.put(name, text)
+        for name in ("desk-stop", "desk-start", "desk-backup", "hq-as", "hq-customers"):
+            if name != "hq-customers":
+                (self.scripts / name).rename(self.scripts / f"real-{name}")
+            self.put(name, CALLS.format(name=name, folder=folder) + ("" if name == "hq-customers" else f'exec "$(dirname "$0")/real-{name}" "$@"\n'))
+        # (what the desks' user and the worker's do)
+        self.put("hq", "#!/bin/sh\n")
+        self.put("hq-relay", "#!/bin/sh\n")
+        self.put("real-hq-as", '#!/bin/sh\n[ "$1" != --input ] || shift\nshift\nexec "$@"\n')
+        (folder / "relay.ini").write_text("[desk]\ndesks = desks.csv\n")
+        self.addresses = {it: is_set_up(folder, it) for it in ("north", "south")}
+        for name in self.addresses:
+            (folder / f"{name}.key").write_text("relaykey000000001\n")
+            (folder / f"{name}.csv").write_text(OTHER.replace("acme", {"north": "acme", "south": "birch"}[name]))
+        for it in ("hq-relay-intake.service", "hq-relay-deliver.service"):
+            (folder / f"runs-{it.removesuffix('.service')}").touch()
+        self.run("real-desk-start", "north", "south")
+        self.backup = folder / "backup"
+        self.run("real-desk-backup", self.backup, "north", "south")
+        for name in ("north", "south"):
+            self.store(name).write_text("of later")
+
+    def put(self, name, text):
+        (self.scripts / name).write_text(text)
+        (self.scripts / name).chmod(0o755)
+
+    def store(self, name="north"):
+        return self.folder / f"stores/{name}.db"
+
+    def run(self, command, *more):
+        return run(self.folder, command, *more)
+
+    def restore(self, *names, aside="aside"):
+        return self.run("hq-restore", *(names or ["north"]), "--backup", self.backup, "--aside", self.folder / aside)
+
+    def steps(self):
+        path = self.folder / "steps"
+        found = path.read_text().splitlines() if path.exists() else []
+        path.unlink(missing_ok=True)
+        return found
+
+    def marks(self):
+        return sorted(it.name for it in (self.folder / "stopped").iterdir())
+
+    def is_done(self, *about, worker=True):
+        """The store is that of the copy, all runs, and no mark is left."""
+        expect(self.store().read_text() == "a store" and self.marks() == ([] if worker else ["relay"]), *about, "there are", self.marks())
+        last = (self.folder / "called").read_text().splitlines()[-1]
+        expect(("start hq-relay-intake.service hq-relay-deliver.service" == last) == worker, *about, "the last call is", last)
+        expect(listens(self.addresses["north"]), *about, "north does not listen")
+
+    def is_kept(self, step, *about):
+        """Until the desk has started nobody works at its store; until the book is fitted the worker does not start."""
+        before = STEPS.index(step) < STEPS.index("desk-start north")
+        commands = [("real-desk-start", "north"), ("real-desk-backup", self.folder / "other", "north")] if before else []
+        for command in [*commands, *([("real-desk-start", "relay")] if step != "desk-start relay" else [])]:
+            ended = self.run(*command)
+            expect(ended.returncode == 1 and "hq-restore" in ended.stderr, *about, command, "ended with", ended)
+        if before:
+            ended = self.run("hq-ask", "--folder", self.folder, "--store", self.folder / "stores", "usage", "acme")
+            expect(ended.returncode == 1 and "hq-restore" in ended.stderr, *about, "hq-ask ended with", ended)
+
+
+@pytest.fixture
+def place(folder):
+    return Place(folder)
+
+
+def test_order(place):
+    """The worker is away before its desk, and starts last; what is there now is in the copy aside."""
+    place.steps()
+    ended = place.restore()
+    expect(ended.returncode == 0, "it ended with", ended)
+    place.is_done("at once")
+    steps = place.steps()
+    found = [next((at for at, it in enumerate(steps) if step in it), None) for step in STEPS]
+    expect(None not in found and found == sorted(found), "the steps are", steps)
+    moment = time.strftime("%Y-%m-%dT%H:%M:%SZ", time.gmtime((place.backup / "north.tar").stat().st_mtime))
+    for it in (f"hq-customers erase-again north --copy {place.backup}", f"hq-as hqrelay hq-relay {place.folder}/relay.ini restored north --copied {moment}"):
+        expect(it in steps, "no step is", it)
+    with tarfile.open(place.folder / "aside/north.tar") as tar:
+        expect(tar.extractfile("north.db").read() == b"of later", "aside is another store")
+    expect(place.store("south").read_text() == "of later", "another store was put back")
+    ended = place.run("hq-restore")
+    expect(ended.returncode == 1 and "no restore is under way" in ended.stderr, "again", ended)
+
+
+@pytest.mark.parametrize("how", ["fails", "waits"])
+@pytest.mark.parametrize("step", STEPS[2:])
+def test_goes_on(place, step, how):
+    """Where a step fails, or all of it is killed there, the same command goes on, whatever boots come between."""
+    (place.folder / how).write_text(step)
+    if how == "fails":
+        ended = place.restore()
+        expect(ended.returncode == 1 and "type `hq-restore` without words" in ended.stderr, "it ended with", ended)
+    else:
+        going = subprocess.Popen(start_new_session=True, **words(place.folder, "hq-restore", "north", "--backup", place.backup, "--aside",
+                                                                  place.folder / "aside"))
+        until((place.folder / "there").exists, "it does not come so far")
+        ended = place.run("hq-restore")
+        expect(ended.returncode == 1 and "another hq-restore is at work" in ended.stderr, "two at once", ended)
+        os.killpg(going.pid, signal.SIGKILL)
+        going.wait()
+    (place.folder / how).unlink()
+    place.is_kept(step)
+    if STEPS.index(step) > STEPS.index("desk-start north"):
+        place.store().write_text("a store of later")
+    ended = place.run("hq-restore")
+    expect(ended.returncode == 0, "it ended with", ended)
+    if STEPS.index(step) > STEPS.index("desk-start north"):
+        # (its customers have worked by it since)
+        expect(place.store().read_text() == "a store of later", "the store was put back once more")
+        place.store().write_text("a store")
+    place.is_done(step)
+
+
+@pytest.mark.parametrize("step", STEPS[:2])
+def test_nothing_is_changed(place, step):
+    """Where nothing has been put back yet, a fault leaves what ran as it was, and what desk-stop had stopped."""
+    (place.folder / "fails").write_text(step)
+    for stopped in ([], ["north"], ["north", "relay"]):
+        for it in stopped:
+            (place.folder / "stopped" / it).touch()
+        ended = place.restore(aside=f"aside-{len(stopped)}")
+        expect(ended.returncode == 1 and "goes on" not in ended.stderr, "it ended with", ended)
+        expect(place.store().read_text() == "of later" and place.marks() == stopped, stopped, "there are", place.marks())
+
+
+def test_killed_before(place):
+    """Killed before there is a copy of what is there, the next call starts all again, and the same line with a new folder does all of it."""
+    (place.folder / "waits").write_text("desk-backup --any")
+    going = subprocess.Popen(start_new_session=True, **words(place.folder, "hq-restore", "north", "--backup", place.backup, "--aside",
+                                                              place.folder / "aside"))
+    until((place.folder / "there").exists, "it does not come so far")
+    os.killpg(going.pid, signal.SIGKILL)
+    going.wait()
+    (place.folder / "waits").unlink()
+    (place.folder / "aside").mkdir()
+    ended = place.restore()
+    expect(ended.returncode == 1 and "is there already: name a new folder" in ended.stderr, "the folder of before", ended)
+    ended = place.restore(aside="another")
+    expect(ended.returncode == 0, "it ended with", ended)
+    place.is_done()
+
+
+def test_refused(place):
+    """Words and copies that are none change nothing."""
+    (place.folder / "there is").mkdir()
+    empty = place.folder / "empty"
+    for name in ("of another", "half", "without a store", "moved"):
+        (place.folder / name).mkdir()
+    (place.folder / "of another/north.tar").write_bytes((place.backup / "south.tar").read_bytes())
+    (place.folder / "half/north.tar").write_bytes((place.backup / "north.tar").read_bytes()[:700])
+    with tarfile.open(place.folder / "without a store/north.tar", "w"):
+        pass
+    for it in ("north.tar", "north.erased.csv"):
+        shutil.copy(place.backup / it, place.folder / "moved")
+    (place.folder / "moved/north.desks.csv").write_text("customer,desk\nacme,south\nbirch,south\n")
+    new = ("--aside", place.folder / "new")
+    for given, why in ((("north",), "name desks, --backup and --aside"), (("north", *new), "name desks, --backup and --aside"),
+                       (("--backup", place.backup), "name desks, --backup and --aside"), (("west", "--backup", place.backup, *new), "there is no desk west"),
+                       (("north", "--backup", empty, *new), "there is no copy"),
+                       (("north", "--backup", place.backup, "--aside", place.folder / "there is"), "is there already"),
+                       (("north", "--backup", place.folder / "of another", *new), "is no copy of north"),
+                       (("north", "--backup", place.folder / "half", *new), "is no copy of north"),
+                       (("north", "--backup", place.folder / "without a store", *new), "has no store"),
+                       (("north", "--backup", place.folder / "moved", *new), "is from before acme moved there")):
+        ended = place.run("hq-restore", *given)
+        expect(ended.returncode == 1 and why in ended.stderr, given, "ended with", ended)
+        expect(place.store().read_text() == "of later" and not place.marks() and not (place.folder / "new").exists(), given, "changed", place.marks())
+    expect("--without acme gives up" in ended.stderr, "it tells no way out:", ended)
+    place.steps()
+    ended = place.run("hq-restore", "north", "--backup", place.folder / "moved", *new, "--without", "acme")
+    expect(ended.returncode == 0 and any(it.endswith("/moved --without acme") for it in place.steps()), "it ended with", ended)
+
+
+def test_another_copy(place):
+    """As long as its desk has not started another copy may be taken, as what was there before; and none behind that."""
+    (place.folder / "fails").write_text("migrate")
+    place.restore()
+    (place.folder / "fails").unlink()
+    place.steps()
+    ended = place.run("hq-restore", "north", "--backup", place.folder / "aside", "--aside", place.folder / "aside")
+    expect(ended.returncode == 0 and place.store().read_text() == "of later" and not place.marks(), "it ended with", ended)
+    expect(not [it for it in place.steps() if "desk-backup" in it], "there is another copy aside")
+    (place.folder / "fails").write_text("restored")
+    place.restore(aside="second")
+    ended = place.restore(aside="third")
+    expect(ended.returncode == 1 and "north has started by the copy in" in ended.stderr, "it ended with", ended)
+
+
+def test_several(place):
+    """The worker waits for all desks, whether they are named at once or not; where a list is missing clocks decide."""
+    (place.backup / "south.erased.csv").unlink()
+    ended = place.restore("north", "south")
+    expect(ended.returncode == 0 and place.store("south").read_text() == "a store", "it ended with", ended)
+    place.is_done("both")
+    steps = place.steps()
+    expect("hq-customers erase-again south" in steps, "the steps are", steps)
+    order = [it.split()[-4:-2] for it in steps if "restored" in it], [at for at, it in enumerate(steps) if "desk-start" in it or "restored" in it]
+    expect([it[-1] for it in order[0]] == ["north", "south"] and len(order[1]) == 5, "the steps are", steps)
+    (place.folder / "fails").write_text("restored north")
+    place.restore("north", aside="second")
+    ended = place.restore("south", aside="third")
+    expect(ended.returncode == 1 and "relay" in place.marks(), "the worker has started", ended)
+    (place.folder / "fails").unlink()
+    expect(place.run("hq-restore").returncode == 0, "it does not go on")
+    place.is_done("one behind the other")
+
+
+def test_worker(place):
+    """A worker that was stopped before stays stopped, and one that is not set up is left alone."""
+    place.run("real-desk-stop", "relay")
+    ended = place.restore()
+    expect(ended.returncode == 0 and "The worker stays stopped" in ended.stdout, "it ended with", ended)
+    place.is_done(worker=False)
+    place.run("real-desk-start", "relay")
+    (place.folder / "relay.ini").unlink()
+    place.steps()
+    ended = place.restore(aside="second")
+    expect(ended.returncode == 0 and not [it for it in place.steps() if "relay" in it], "it ended with", ended)
+    (place.folder / "relay.ini").write_text("[desk]\n")
+    ended = place.restore(aside="third")
+    expect(ended.returncode == 0 and any(" restored --copied " in it for it in place.steps()), "of a worker with one desk", ended)
