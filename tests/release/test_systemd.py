@@ -224,6 +224,28 @@ def test_stopped_over_a_boot(machine):
     machine.until_active(*OURS)
 
 
+def test_put_back(machine):
+    """The line of the page puts a store back. Killed at each of its steps, it goes on behind a boot, which has started nothing by half."""
+    key = machine.run("sed -n 's/^acme,\\([^,]*\\),.*/\\1/p' /etc/hq/north.csv").strip()
+    machine.run("/usr/libexec/hq-desk/desk-backup /root/before north")
+    line, = blocks(PROCEDURES, "Restore")
+    for number, (name, when) in enumerate(((None, None), ("runuser", "hq migrate"), ("systemctl", "start hq-desk@north"), ("runuser", "restored"))):
+        machine.run(f"curl -sSf -H 'X-Desk-Key: {key}' -d '{{\"class\":\"sender\",\"pattern\":\"new.example\",\"action\":\"HOLD\"}}' "
+                    "http://127.0.0.1:825/v1/line-put")
+        if name:
+            stands_in(machine, name, when, "pkill -9 -f bin/hq-restore; sleep 1; exit 9")
+            machine.run(f"{line} || test $? = 137", BACKUP="/root/before", ASIDE=f"/root/aside{number}", longest=120)
+            machine.boot_again()
+            expect(machine.active("hq-relay-intake", "hq-relay-deliver") == ["inactive"] * 2, when, "was cut, and the worker runs")
+            expect("hq-restore" in machine.run("/usr/libexec/hq-desk/desk-start relay 2>&1", status=1), when, "the worker was started")
+            told = machine.run("hq-restore", longest=120)
+        else:
+            told = machine.run(line, BACKUP="/root/before", ASIDE=f"/root/aside{number}", longest=120)
+        machine.until_active(*OURS)
+        found = machine.run(f"curl -sSf -H 'X-Desk-Key: {key}' http://127.0.0.1:825/v1/lines; ls /var/lib/hq-desk-stopped")
+        expect("new.example" not in found and found.endswith("}\n"), when, "there is", found, told)
+
+
 def test_killed_copy(machine):
     """While its store is copied nothing starts a desk; the mark of a copy that was killed keeps it from no start."""
     machine.run("mkdir -p /run/hq-desk.copied; exec 9>/run/hq-desk.locks/north; flock 9; touch /run/hq-desk.copied/north; "
