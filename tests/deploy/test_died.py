@@ -1,6 +1,8 @@
 """A worker process of nginx that dies: its customers are served again, and nginx is restarted for nothing else."""
 import http.client
 import os
+import re
+import shutil
 import signal
 import subprocess
 import time
@@ -22,6 +24,11 @@ LINE = "{} [alert] {}#{}: worker process 4300 exited on signal {}\n"
 # What nginx writes for each connection for which it has no room; and the bytes that the check reads at once, and of a file.
 ROOM = "2026/01/02 03:04:05 [alert] 4300#4300: *7 8192 worker_connections are not enough\n"
 PART, MOST = 1 << 20, 1 << 26
+# A systemctl that knows the units of a folder, and notes which of them a line enables and starts.
+SYSTEMCTL = """\
+#!/bin/sh
+case "$*" in "enable --now hq-desk-nginx.timer") grep -q '^WantedBy=' {0}/units/hq-desk-nginx.timer && : >{0}/started ;; esac
+"""
 
 
 class Checked:
@@ -104,6 +111,21 @@ def test_restarted():
     expect("hq-desk-nginx.timer" in wanted, "a desk wants", wanted)
     main = (DEPLOY / "nginx-main.conf").read_text()
     expect("\nerror_log /var/log/hq-nginx/error.log alert;\n" in main, "nginx does not write there")
+
+
+def test_without_a_desk(folder):
+    """On a machine that has nginx alone, since its desks are at others, the lines of the page start the timer, for each boot too."""
+    page = (DEPLOY.parent / "docs/PRODUCTION.md").read_text()
+    block = re.search(r"(?ms)^### nginx$.*?^```\n(.*?)^```$", page)[1]
+    (folder / "units").mkdir()
+    shutil.copy(DEPLOY / "hq-desk-nginx.timer", folder / "units")
+    (folder / "systemctl").write_text(SYSTEMCTL.format(folder))
+    (folder / "systemctl").chmod(0o755)
+    for it in re.findall(r"(?m)^systemctl enable .*$", block):
+        subprocess.run(["bash", "-euc", it], check=True, timeout=LONGEST, env={"PATH": f"{folder}:{os.environ['PATH']}"})
+    expect((folder / "started").exists(), "it does not run until a boot, by", block)
+    wanted = all_settings_of(folder / "units/hq-desk-nginx.timer").get("WantedBy")
+    expect(wanted == ["timers.target"], "a boot does not start it:", wanted)
 
 
 @pytest.mark.parametrize("text, found", [
