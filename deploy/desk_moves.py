@@ -21,8 +21,6 @@ from desk_files import FURTHER, Desk, Folder, Refused, sync
 # What works at stores, and would find the customer in both, or in none. (erase-again is for a store that comes back meanwhile.)
 OF_STORES = "erase", "retain", "compare"
 OF_WORKER = "hq-relay-intake", "hq-relay-deliver"
-# In seconds: how long nginx takes at most to tell its processes that others go by new files.
-RELOADS = 0.5
 
 
 def refuse_meanwhile(folder: Path, command: str, name: Optional[str], desk: Optional[str]) -> None:
@@ -196,7 +194,7 @@ def start(scripts: Path, desks: List[str]) -> List[str]:
     """Starts desks but those that desk-stop keeps stopped; the faults of that."""
     faults: List[str] = []
     if desks:
-        time.sleep(RELOADS)
+        time.sleep(desk_programs.RELOADS)
     for it in desks:
         (STOPPED / OF_A_MOVE.format(it)).unlink(missing_ok=True)
         if (STOPPED / it).exists():

@@ -2,13 +2,14 @@
 import argparse
 import configparser
 import contextlib
+import csv
 import os
 import shutil
 import signal
 import subprocess
 import time
 from pathlib import Path
-from typing import Iterator, List, Optional, Tuple, Union
+from typing import Iterator, List, Optional, Set, Tuple, Union
 
 from desk_apart import run_apart
 from desk_files import DESK, LONGEST, Desk, Folder, Refused
@@ -19,8 +20,9 @@ SPOOL = "/var/lib/hqrelay/spool"
 LONGEST_ERASING = 300
 # What `desk-store` ends with where it did its work: wholly, where it knows no such customer, and where more is left.
 DONE, UNKNOWN, MORE = 0, 3, 4
-# So many seconds a `deliver` that has little under way takes to go by other tables.
-SETTLES = 2
+# So many seconds a `deliver` that has little under way takes to go by other tables, and nginx at most, whose processes of before take
+# calls for a moment behind a reload.
+SETTLES, RELOADS = 2, 0.5
 # In this order, so that nobody brings mail of a customer to the nginx of workers before that knows its desk. nginx for customers
 # comes last, since it serves other sites too, each of which may have a fault.
 PROGRAMS = "hq-desk-workers", "hq-relay-intake", "hq-relay-deliver", "nginx"
@@ -123,6 +125,23 @@ def as_worker(folder: Path, command: str, name: str) -> "subprocess.CompletedPro
     return run_apart(words, longest=LONGEST_ERASING)
 
 
+@contextlib.contextmanager
+def printed_behind(key: Optional[str], is_of_files: bool) -> Iterator[None]:
+    """Prints a key behind what is done meanwhile, so that it works once somebody has it. A fault of that keeps it from nobody, since
+    it stands in the files."""
+    faults: List[str] = []
+    try:
+        yield
+    except (Refused, OSError, subprocess.SubprocessError) as fault:
+        faults.append(str(fault))
+    if key and not is_of_files and shutil.which("systemctl") and is_active("nginx"):
+        time.sleep(RELOADS)
+    if key and (unprinted := fault_of_printing(key)):
+        faults.append(f"all was done, but the key could not be printed: {unprinted}; `hq-customers key` and `add-key` make others")
+    if faults:
+        raise Refused(" / ".join(faults))
+
+
 def fault_of_printing(text: str) -> str:
     """Prints it; why that fails, where it does."""
     try:
@@ -201,6 +220,29 @@ def kept_for_later(faults: List[str]) -> Iterator[None]:
 def told_at_last(faults: List[str]) -> None:
     if faults:
         raise Refused(f"the others are done; mend this, or move that file to another folder, and run it again: {' / '.join(faults)}")
+
+
+def names_in(directory: Path) -> Set[str]:
+    with open(directory, encoding="utf-8-sig", newline="") as file:
+        return {row.get("name") or "" for row in csv.DictReader(file)}
+
+
+def refuse_customer(folder: Folder, name: str) -> None:
+    """Refuses to erase who is a customer, also of a desk beyond this machine, whose store is there."""
+    if any(it["name"] == name for desk in folder.desks for it in desk.rows):
+        raise Refused(f"{name} is a customer: `hq-customers drop {name}` comes first")
+    for address, path in folder.beyond:
+        if path.exists() and name in names_in(path):
+            raise Refused(f"{name} is a customer of the desk at {address}, which is at another machine, and nothing was erased: drop and erase it "
+                          f"there; then take its row out of {path}, and type `desk-maps` with all desks")
+
+
+def left_of(name: str, beyond: List[Tuple[str, Path]]) -> str:
+    """What there is of a customer behind its erasure."""
+    others = "".join(f"; what the desk at {address} has, at another machine, until it is erased there" for address, _ in beyond)
+    return (f"Of {name} there is left: backups from before now, until you delete them; lines of /var/log/hqdesk and "
+            "/var/log/hq-nginx, for 90 days; the log of Postfix; what Prometheus has read, as long as it keeps that; and mail that waits "
+            f"in the Postfix that takes mail in (postqueue -j), until its next try, at which it bounces whoever has the name by then{others}.")
 
 
 def refuse_elsewhere(scripts: Path, folder: Folder, its_desk: Desk, given: argparse.Namespace) -> None:

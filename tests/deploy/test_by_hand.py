@@ -1,8 +1,13 @@
 """A customer whose row an administrator takes out by hand, or whose desk goes with its files, locks nobody: hq-customers goes on for all
 others, and erases that one."""
+import re
+import subprocess
+
+import needs
 import pytest
 from customers_place import ACME, Place
-from serving import expect
+from moving import Moves
+from serving import LONGEST, expect
 
 BIRCH = ACME.replace("acme", "birch")
 
@@ -96,11 +101,33 @@ def test_a_gone_desk_that_runs(place):
     expect("no customer is at a desk south" in place.run("--store", place.folder, "drop-desk", "south").stderr, "one that does not run")
 
 
-def test_a_row_of_who_is_half_moved(place):
-    """Somebody takes the row of who is half moved out of the first directory by hand: the move goes on, to what it prints."""
-    (place.folder / ".customers.moving").write_text("nobody north south copied\n")
-    ended = place.run("--store", place.folder, "move", "nobody", "--desk", "south")
-    expect("there is no customer" not in ended.stderr, "it ended with", ended)
+@pytest.mark.parametrize("step", ["asked", "copied"])
+def test_a_row_of_who_is_half_moved(folder, program, step):
+    """Somebody takes the row of who is half moved out of the first directory by hand: the line that is printed ends the move. Its records
+    are whole in the second store, both desks run, and it counts as dropped, so that it can be erased."""
+    needs.root()
+    needs.command("flock")
+    place = Moves(folder, program)
+    place.done("set", "dale", "--domain", "d.example")
+    stores, directory = [place.stores / f"{it}.db" for it in ("north", "south")], place.folder / "north.csv"
+    if step == "copied":
+        subprocess.run([place.scripts / "move-customer", "--copy", *stores, "dale"], check=True, stdout=subprocess.DEVNULL, timeout=LONGEST)
+    (place.folder / ".customers.moving").write_text(f"dale north south {step} desks\n")
+    for it in ("north", "south"):
+        (place.place / f"stopped/{it}.moving").touch()
+    place.boot()
+    directory.write_text("".join(it for it in directory.read_text().splitlines(keepends=True) if not it.startswith("dale,")))
+    told = place.run("set", "dale", "--messages", "9").stderr
+    ended = place.run(*re.search(r"type `hq-customers (.*?)` again", told)[1].split())
+    wanted = 0, "dale is at south now\n", "dale is in no directory, so the domain d.example is not its any more\n"
+    expect((ended.returncode, ended.stdout, ended.stderr) == wanted, "it ended with", ended)
+    expect(place.has("south") == place.before and not any(place.has("north").values()), "records are lost:", place.has("south"))
+    running = sorted(it.name for it in (place.place / "runs").iterdir())
+    left = [*(place.place / "stopped").iterdir(), *place.folder.glob(".customers.moving*")]
+    expect(running == ["hq-desk@north", "hq-desk@south"] and not left, "there run", running, "and there is", left)
+    expect("dale by hand: dropped on" in place.done("list"), "it is not dropped:", place.done("list"))
+    place.done("erase", "dale")
+    expect(not any(place.has("south").values()), "it is not erased:", place.has("south"))
 
 
 def test_gone_within_a_move(place):

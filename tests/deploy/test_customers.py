@@ -240,6 +240,19 @@ def test_desks_beyond_this_machine(place):
     place.done("set", "acme", "--messages", "999")
 
 
+def test_erased_beyond_this_machine(place):
+    """A customer of a desk beyond this machine is not erased here: its store is there, and its mail goes on. Of who is none any more it is
+    told that this desk may have records."""
+    has_far(place)
+    place.done("set", "acme", "--messages", "997")
+    before, ended = place.files(), place.run("--store", place.folder, "erase", "farfirm")
+    expect(ended.returncode == 1 and not ended.stdout and place.files() == before, "it ended with", ended)
+    expect("farfirm is a customer of the desk at 127.0.0.1:849, which is at another machine" in ended.stderr, "it is told as", ended)
+    has_far(place, "another,farkey0000000001,9,9,9,9,9\n")
+    told = place.done("--store", place.folder, "erase", "farfirm")
+    expect("what the desk at 127.0.0.1:849 has, at another machine, until it is erased there." in told, "it is told as", told)
+
+
 def test_a_desk_that_was_dropped(place):
     """A desk of this machine that was dropped does not come back as one beyond it, nor one that has another address or name now."""
     place.desk("far", 849, "farfirm,farkey0000000001,9,9,9,9,9\n")

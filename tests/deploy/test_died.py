@@ -1,6 +1,8 @@
 """A worker process of nginx that dies: its customers are served again, and nginx is restarted for nothing else."""
 import http.client
 import os
+import re
+import shutil
 import signal
 import subprocess
 import time
@@ -19,6 +21,14 @@ UNIT = all_settings_of(DEPLOY / "hq-desk-nginx.service")
 # The main process of the tests without an nginx, and what it writes.
 MAIN, HOUR = 4242, 3600
 LINE = "{} [alert] {}#{}: worker process 4300 exited on signal {}\n"
+# What nginx writes for each connection for which it has no room; and the bytes that the check reads at once, and of a file.
+ROOM = "2026/01/02 03:04:05 [alert] 4300#4300: *7 8192 worker_connections are not enough\n"
+PART, MOST = 1 << 20, 1 << 26
+# A systemctl that knows the units of a folder, and notes which of them a line enables and starts.
+SYSTEMCTL = """\
+#!/bin/sh
+case "$*" in "enable --now hq-desk-nginx.timer") grep -q '^WantedBy=' {0}/units/hq-desk-nginx.timer && : >{0}/started ;; esac
+"""
 
 
 class Checked:
@@ -28,9 +38,12 @@ class Checked:
         self.log, self.bin, self.seconds = log, folder / "bin", "0"
         self.bin.mkdir()
 
-    def runs(self, process, started):
+    def runs(self, process, started, told=None):
+        """This process runs since a moment of the clock that nobody sets, at which the clock of the machine told another one."""
         path = self.bin / "systemctl"
-        path.write_text(f"#!/bin/sh\necho MainPID={process}\necho ExecMainStartTimestampMonotonic={int(started * 1e6)}\n")
+        told = time.time() - time.monotonic() + started if told is None else told
+        path.write_text(f"#!/bin/sh\necho MainPID={process}\necho ExecMainStartTimestampMonotonic={int(started * 1e6)}\n"
+                        f'case "$*" in "show --timestamp=unix "*) echo ExecMainStartTimestamp={f"@{int(told)}" if process else ""} ;; esac\n')
         path.chmod(0o755)
 
     def ended(self):
@@ -100,12 +113,28 @@ def test_restarted():
     expect("\nerror_log /var/log/hq-nginx/error.log alert;\n" in main, "nginx does not write there")
 
 
+def test_without_a_desk(folder):
+    """On a machine that has nginx alone, since its desks are at others, the lines of the page start the timer, for each boot too."""
+    page = (DEPLOY.parent / "docs/PRODUCTION.md").read_text()
+    block = re.search(r"(?ms)^### nginx$.*?^```\n(.*?)^```$", page)[1]
+    (folder / "units").mkdir()
+    shutil.copy(DEPLOY / "hq-desk-nginx.timer", folder / "units")
+    (folder / "systemctl").write_text(SYSTEMCTL.format(folder))
+    (folder / "systemctl").chmod(0o755)
+    for it in re.findall(r"(?m)^systemctl enable .*$", block):
+        subprocess.run(["bash", "-euc", it], check=True, timeout=LONGEST, env={"PATH": f"{folder}:{os.environ['PATH']}"})
+    expect((folder / "started").exists(), "it does not run until a boot, by", block)
+    wanted = all_settings_of(folder / "units/hq-desk-nginx.timer").get("WantedBy")
+    expect(wanted == ["timers.target"], "a boot does not start it:", wanted)
+
+
 @pytest.mark.parametrize("text, found", [
     (line(), True), (line(by="11 (core dumped)"), True), (f"{line(main=1)}{line()}{line(main=1)}", True), ("x" * 100_000 + "\n" + line(), True),
+    (line() + ROOM * 20_000, True), ("x" * PART + "\n" + line() + "x" * PART, True), (ROOM * (PART // len(ROOM)) + line(), True),
     ("", False), (line(ago=2 * HOUR), False), (line(main=MAIN + 1), False), (line()[:-1].replace("9", "9 now") + "\n", False),
-    (f'{line(main=1)[:-1]}, request: "{line()[:-1]}"\n', False), ("x" * 100_000 + line() + "y" * (65_536 - len(line())), False),
+    (f'{line(main=1)[:-1]}, request: "{line()[:-1]}"\n', False), ("x" * PART + line(), False), ("x" * (PART + 4096) + line(), False),
     (line().replace("alert", "error"), False), (line().replace("worker process", "cache manager process"), False),
-    (line().replace("exited on signal 9", "exited with code 0"), False), (line() + "x" * 70_000 + "\n", False),
+    (line().replace("exited on signal 9", "exited with code 0"), False),
     ("9999/99/99 99:99:99 [alert] 4242#1: worker process 1 exited on signal 9\n", None)],
     ids=lambda it: "line" if isinstance(it, str) else str(it))
 def test_lines(checked, text, found):
@@ -117,6 +146,33 @@ def test_lines(checked, text, found):
     # (a log that was moved away meanwhile counts as well)
     checked.log.rename(f"{checked.log}.1")
     expect(checked.ended().returncode == wanted, "moved away it gives", checked.ended())
+
+
+def test_last_bytes(checked):
+    """Of a large log the last 64 MB are read, and no line that they cut: it may be the end of one in which a stranger has written."""
+    with open(checked.log, "w") as log:
+        log.write(f"x{line()}")
+        log.truncate(1 + MOST)
+    expect(checked.ended().returncode == 1, "the end of a line counts")
+    with open(checked.log, "a") as log:
+        log.write(f"\n{line()}")
+    expect(checked.ended().returncode == 0, "the last line is not found")
+
+
+HALF, DAY = HOUR // 2, 24 * HOUR
+
+
+@pytest.mark.parametrize("told, ago, found", [
+    # (the clock was set forward by a day, or the machine stood still as long: the line seems to be of before the start)
+    (HOUR + DAY, HALF + DAY, True), (HOUR + DAY, HOUR + DAY + 60, False),
+    # (it was set back by a day: the line is of before that, or of behind it, or of the nginx before)
+    (HOUR - DAY, HALF - DAY, True), (HOUR - DAY, HALF, True), (HOUR - DAY, HOUR + 60, False)])
+def test_the_clock_is_set(checked, told, ago, found):
+    """Whatever was done to the clock since nginx was started, a worker process that died since is found, and none of before."""
+    checked.runs(MAIN, time.monotonic() - HOUR, time.time() - told)
+    checked.log.write_text(line(ago))
+    ended = checked.ended()
+    expect((ended.returncode == 0) == found, "told", told, "ago", ago, "it ends with", ended)
 
 
 def test_never_in_a_loop(checked):

@@ -50,6 +50,19 @@ def test_key_that_is_not_printed(place):
     expect(called(place) == ALL and mode(place.folder / "north.csv") == 0o640, "a key is not dropped where nobody can be told of a mode")
 
 
+@pytest.mark.parametrize("fault", [0, 1])
+@pytest.mark.parametrize("words", [("key", "acme"), ("add", "birch"), ("add-key", "acme", "panel")])
+def test_a_key_is_printed_last(place, words, fault):
+    """A key is printed behind all that takes it up, since a script may use it at once, and also where something does not take it up."""
+    printed = place.folder.parent / "printed"
+    place.systemctl(f'[ ! -s {printed} ] || [ "$1" = is-active ] || echo "$*" >>{place.bin}/early; [ "$1" != reload ] || exit {fault}')
+    with open(printed, "w") as file:
+        ended = run(place, *words, stdout=file)
+    expect(re.fullmatch(r"[0-9a-f]{40}\n", printed.read_text()) and ended.returncode == fault, words, "prints", printed.read_text(), ended)
+    expect(("not taken up by all" in ended.stderr) == bool(fault) and called(place) == ALL, words, "ended with", ended)
+    expect(not (place.bin / "early").exists(), words, "prints it before", place.bin / "early")
+
+
 @pytest.mark.parametrize("sign", ["HUP", "INT", "TERM"])
 def test_hung_up(place, sign):
     """Whoever closes the terminal, or stops it, when the files are written keeps nothing from going by them."""

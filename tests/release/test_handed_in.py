@@ -1,22 +1,41 @@
 """Proofs that another clone has kept: taken by their sums where the sources are the same, and else made from nothing."""
 import hashlib
 import os
+import re
 import subprocess
+import sys
 import tarfile
 
 import needs
 import pytest
-from releasing import copied
+from releasing import copied, run, stand_in, version
 from serving import expect
 
 # The crate that is proved fastest, with nothing below it.
 CRATE = "hq_memory"
 LONGEST = 600
+# The script ./release, for which any program counts as the one that was proved; it prints what comes into PROVED.
+PROVED = """\
+import sys
+from importlib.machinery import SourceFileLoader
+script = SourceFileLoader("release", sys.argv[1]).load_module()
+script.is_proved = lambda program: True
+print(script.evidence(script.Path(sys.argv[2]), sys.argv[3]))
+"""
 
 
 def build(place, proofs=None):
     env = {**os.environ, **({"HQ_PROOFS": str(proofs)} if proofs else {})}
     return subprocess.run([place / "tools/build", CRATE], capture_output=True, text=True, timeout=LONGEST, env=env)
+
+
+def named_in_proved(place, folder):
+    """The crates whose proofs were handed in, by the file PROVED that a clone makes of a program that it has proved."""
+    ended = run(sys.executable, "-B", "-W", "ignore", "-c", PROVED, place / "release", stand_in(folder, version()), version())
+    expect(ended.returncode == 0 and re.search(rf"(?m)^[0-9a-f]{{64}}  {CRATE}$", ended.stdout), "the crate has no sum in", ended)
+    said, _, names = ended.stdout.partition("(HQ_PROOFS):\n")
+    expect(("Of these crates the proofs were not made for this release" in said) == bool(names), "it says", ended.stdout)
+    return names.split()
 
 
 @pytest.fixture(scope="module")
@@ -32,22 +51,26 @@ def proofs(tmp_path_factory):
 
 
 def test_taken(proofs, folder):
-    """A clone with the same sources makes no proof of its own, and keeps from where it has one."""
+    """A clone with the same sources makes no proof of its own, keeps from where it has one, and says so of that crate alone in PROVED."""
     place = copied(folder / "same")
     told = build(place, proofs)
     expect(told.returncode == 0 and f"1 proofs were taken from {proofs}" in told.stderr, "it ended with", told)
     expect((place / f"crates/{CRATE}/out/taken-from").read_text() == f"{proofs}\n" and "1 at work" not in told.stderr, "a proof was made", told)
     expect(build(place).returncode == 0 and (place / f"crates/{CRATE}/out/taken-from").exists(), "it is proved again")
+    named = named_in_proved(place, folder)
+    expect(named == [CRATE], "PROVED names", named)
 
 
 def test_of_other_sources(proofs, folder):
-    """Where a source has changed nothing of it is taken, and the crate is proved."""
+    """Where a source has changed nothing of it is taken, the crate is proved, and PROVED names no proof that was handed in."""
     place = copied(folder / "other")
     path = place / f"crates/{CRATE}/src/lib.rt"
     path.write_text(path.read_text() + "\n")
     told = build(place, proofs)
     expect(told.returncode == 0 and "0 proofs were taken" in told.stderr, "it ended with", told)
     expect(not (place / f"crates/{CRATE}/out/taken-from").exists(), "it counts as taken")
+    named = named_in_proved(place, folder)
+    expect(named == [], "PROVED names", named)
 
 
 def test_refused(proofs, folder):

@@ -111,6 +111,7 @@ def test_killed(machine):
 def test_a_process_of_nginx(machine):
     """A worker process of nginx dies: the timer that desks want has nginx restarted, since what that process had stays counted."""
     expect(machine.active("hq-desk-nginx.timer") == ["active"], "no timer looks for it")
+    machine.run("systemctl is-enabled hq-desk-nginx.timer")
     before, drop_in = pid_of(machine, "nginx"), "/run/systemd/system/hq-desk-nginx.service.d"
     # (it leaves an nginx alone that was started within the last five minutes)
     machine.run(f"mkdir -p {drop_in}; printf '[Service]\\nExecCondition=\\nExecCondition=/usr/libexec/hq-desk/nginx-check "
