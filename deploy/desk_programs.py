@@ -9,7 +9,7 @@ import signal
 import subprocess
 import time
 from pathlib import Path
-from typing import Iterator, List, Optional, Set, Tuple, Union
+from typing import Dict, Iterator, List, Optional, Set, Tuple, Union
 
 from desk_apart import run_apart
 from desk_files import DESK, LONGEST, Desk, Folder, Refused
@@ -184,6 +184,7 @@ def stores_in(stores: Path, desks: List[Desk]) -> Tuple[List[str], List[str]]:
 def refuse_gone(folder: Folder, stores: Path, dropped: List[str]) -> None:
     """Refuses to take a desk for gone whose store is there, and whose settings may be away for a moment: its customers would lose
     their logins and domains. `dropped` are desks that are gone."""
+    refuse_rows_beyond(folder)
     known = {*(it.name for it in folder.desks), *dropped}
     for desk in sorted({desk for name, desk in folder.desks_before if name in folder.by_hand} - known):
         if os.path.lexists(stores / f"{desk}.db"):
@@ -227,14 +228,28 @@ def names_in(directory: Path) -> Set[str]:
         return {row.get("name") or "" for row in csv.DictReader(file)}
 
 
+def customers_beyond(folder: Folder) -> Dict[str, Tuple[str, Path]]:
+    """Who is a customer of a desk beyond this machine, with its address and its directory."""
+    return {name: (address, path) for address, path in folder.beyond if path.exists() for name in names_in(path)}
+
+
 def refuse_customer(folder: Folder, name: str) -> None:
     """Refuses to erase who is a customer, also of a desk beyond this machine, whose store is there."""
     if any(it["name"] == name for desk in folder.desks for it in desk.rows):
         raise Refused(f"{name} is a customer: `hq-customers drop {name}` comes first")
-    for address, path in folder.beyond:
-        if path.exists() and name in names_in(path):
-            raise Refused(f"{name} is a customer of the desk at {address}, which is at another machine, and nothing was erased: drop and erase it "
-                          f"there; then take its row out of {path}, and type `desk-maps` with all desks")
+    address, path = customers_beyond(folder).get(name, ("", None))
+    if path:
+        raise Refused(f"{name} is a customer of the desk at {address}, which is at another machine, and nothing was erased: drop and erase it "
+                      f"there; then take its row out of {path}, and type `desk-maps` with all desks")
+
+
+def refuse_rows_beyond(folder: Folder) -> None:
+    """Refuses to take somebody for dropped who was put into the worker's table by hand, and whose desk is beyond this machine."""
+    beyond = customers_beyond(folder)
+    for name in sorted(beyond.keys() & {*folder.by_hand}):
+        raise Refused(f"{folder.path / 'relay.csv'} has a row of {name}, a customer of the desk at {beyond[name][0]}, which is at another machine, and "
+                      "nothing was changed. That table is of the desks of this machine alone, since two workers would send the mail of one "
+                      "customer twice: take the row out, and those of its logins and domains out of senders.csv")
 
 
 def left_of(name: str, beyond: List[Tuple[str, Path]]) -> str:

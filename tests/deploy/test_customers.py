@@ -253,6 +253,17 @@ def test_erased_beyond_this_machine(place):
     expect("what the desk at 127.0.0.1:849 has, at another machine, until it is erased there." in told, "it is told as", told)
 
 
+def test_a_row_of_another_machine(place):
+    """A row of the worker's table that somebody wrote for a customer beyond this machine does not go in silence, and is no customer's here."""
+    has_far(place)
+    place.done("set", "acme", "--messages", "997")
+    with open(place.folder / "relay.csv", "a") as file:
+        file.write("farfirm,,9,9,9,9,9\n")
+    before, ended = place.files(), place.run("set", "acme", "--messages", "998")
+    expect(ended.returncode == 1 and place.files() == before, "it ended with", ended)
+    expect("relay.csv has a row of farfirm, a customer of the desk at 127.0.0.1:849" in ended.stderr, "it is told as", ended)
+
+
 def test_a_desk_that_was_dropped(place):
     """A desk of this machine that was dropped does not come back as one beyond it, nor one that has another address or name now."""
     place.desk("far", 849, "farfirm,farkey0000000001,9,9,9,9,9\n")
