@@ -92,7 +92,8 @@ LOCKS, COPIED = Path("/run/hq-desk.locks"), Path("/run/hq-desk.copied")
 
 
 # The marks of those that desk-stop has stopped, and in the same folder those of the desks of a move; those of desks whose stores are being
-# put back, and of those that have started by such a store, to which the worker's book is still to be fitted. (No desk's name has a dot.)
+# put back (desk_restores.py), and of those that may start by such a store, to which the worker's book is still to be fitted. (No desk's
+# name has a dot.)
 STOPPED, OF_A_MOVE, OF_A_RESTORE, OF_A_FIT = Path("/var/lib/hq-desk-stopped"), "{}.moving", "{}.restoring", "{}.fitting"
 
 # Who is moved from one desk to another, until that is done (desk-start reads it too); its steps: the first store has all rows, or
@@ -129,10 +130,11 @@ def marked(folder: Path) -> Optional[Move]:
     return Move(*words)
 
 
-def restoring(desk: str) -> str:
-    """Why nobody works at the store of a desk: it is being put back; empty, where it is not."""
+def restoring(desk: str, *more: str) -> str:
+    """Why nobody works at the store of a desk: it is being put back; empty, where it is not. With OF_A_FIT also until the worker's book
+    fits it."""
     told = f"the store of {desk} is being put back: `hq-restore` without words goes on with that"
-    return told if (STOPPED / OF_A_RESTORE.format(desk)).exists() else ""
+    return told if any((STOPPED / it.format(desk)).exists() for it in (OF_A_RESTORE, *more)) else ""
 
 
 def under_way(folder: Path) -> Optional[Move]:

@@ -16,7 +16,7 @@ PAGE = "/usr/share/doc/hq-desk/PROCEDURES.md.gz"
 
 
 class Misplaced(NamedTuple):
-    """A customer, a desk whose store has records of it, and the desk whose directory has it."""
+    """A customer, a desk whose store has records of it, and the desk whose directory has it; empty, if it is nobody's."""
 
     name: str
     desk: str
@@ -106,19 +106,22 @@ def places_of(folder: Folder) -> Dict[str, str]:
 
 
 def misplaced(scripts: Path, folder: Folder, stores: Path, desk: str) -> List[Misplaced]:
-    """Of whom the store of a desk has records, who are customers of another one. (Who is half moved may be in both.)"""
+    """Of whom the store of a desk has records, who are customers of another one, or of none. (Who is half moved may be in both, and who was
+    dropped is known to have some.)"""
     its, going = places_of(folder), under_way(folder.path)
     found = desk_programs.of_store(scripts, desk, stores, "names", "-")
-    names = [it for it in (found[1].split() if found else ()) if not going or it != going.customer]
-    return [Misplaced(name, desk, its[name]) for name in names if its.get(name, desk) != desk]
+    names = [it for it in (found[1].split() if found else ()) if it not in folder.dropped and (not going or it != going.customer)]
+    return [Misplaced(name, desk, its.get(name, "")) for name in names if its.get(name) != desk]
 
 
 def ways_of(folder: Folder, found: List[Misplaced]) -> str:
     """Whose records are at which desk, and the ways out for each."""
-    told = ", ".join(f"{desk} has records of {name}, who is at {place} by {folder.path}" for name, desk, place in found)
-    ways = " && ".join(f"hq-customers erase {name} --desk {desk}" for name, desk, _ in found)
-    return (f"{told}. If {folder.path} is from before a move, put its newest copy back. Else `{ways}` erases these; and `hq-customers move NAME "
-            f"--desk DESK --same-firm` moves one of them to the desk that has these records, and erases the others (\"Backup of the keys\" in {PAGE})")
+    told = ", ".join(f"{desk} has records of {name}, who is {f'at {place}' if place else 'no customer'} by {folder.path}" for name, desk, place in found)
+    erases = " && ".join(f"hq-customers erase {name} --desk {desk}" for name, desk, _ in found)
+    adds = [f"; `hq-customers add {name} --desk {desk} --same-firm` has {name} find them again" for name, desk, place in found if not place]
+    moves = (f"; and `hq-customers move NAME --desk DESK --same-firm` moves one who is at another desk to the one that has these records, and "
+             f"erases the others (\"Backup of the keys\" in {PAGE})" if any(it.place for it in found) else "")
+    return f"{told}. If {folder.path} is of before, put its newest copy back. Else `{erases}` erases these{''.join(adds)}{moves}"
 
 
 def moment_of(text: str) -> datetime:

@@ -15,7 +15,7 @@ from pathlib import Path
 from typing import List, Optional
 
 import desk_programs
-from desk_apart import IS_ASKED, IS_COPIED, MOVING, OF_A_MOVE, OF_DESKS, OF_FILES, STOPPED, Move, alone, marked, restoring, run_apart, under_way
+from desk_apart import IS_ASKED, IS_COPIED, MOVING, OF_A_FIT, OF_A_MOVE, OF_DESKS, OF_FILES, STOPPED, Move, alone, marked, restoring, run_apart, under_way
 from desk_files import FURTHER, Desk, Folder, Refused, sync
 
 # What works at stores, and would find the customer in both, or in none. (erase-again is for a store that comes back meanwhile.)
@@ -28,8 +28,16 @@ def refuse_meanwhile(folder: Path, command: str, name: Optional[str], desk: Opti
     there, as long as the first one counts.)"""
     going = under_way(folder)
     is_in_the_way = going and command == "erase" and (name, desk, going.step) == (going.customer, going.target, IS_ASKED)
-    if going and not is_in_the_way and (command in OF_STORES or name == going.customer):
+    # (the name of erase-again is that of a desk)
+    if going and not is_in_the_way and (command in OF_STORES or (name == going.customer and command != "erase-again")):
         raise Refused(going.told())
+
+
+def refuse_restored(*desks: Desk) -> None:
+    """Refuses to take a customer from a desk, or to one, whose restore is under way: the worker would not send again what the copy lacks of
+    its mail."""
+    if why := next(filter(None, (restoring(it.name, OF_A_FIT) for it in desks)), None):
+        raise Refused(why)
 
 
 def refuse_without_settings(folder: Folder) -> None:
@@ -63,8 +71,7 @@ def move(scripts: Path, folder: Folder, given: argparse.Namespace, its_desk: Des
         print(f"{given.name} is at {target.name} already")
         end(scripts, folder, given.name)
         return
-    if why := next(filter(None, map(restoring, (its_desk.name, target.name))), None):
-        raise Refused(why)
+    refuse_restored(its_desk, target)
     is_new = going is None
     going = going or Move(given.name, its_desk.name, target.name, IS_COPIED if given.same_firm else IS_ASKED, OF_FILES if given.files else OF_DESKS)
     if is_new:

@@ -15,7 +15,7 @@ from serving import LONGEST, expect
 from test_erased import BOTH, WITH_HISTORY, Stores
 
 SCRIPTS = ("hq-customers", "hq-as", "hq-ask", "desk-stop", "desk-start", "desk-maps", "desk-store", "move-customer", "desk_apart.py", "desk_files.py",
-           "desk_erasures.py", "desk_moves.py", "desk_programs.py", "desk_store.py")
+           "desk_erasures.py", "desk_moves.py", "desk_programs.py", "desk_restores.py", "desk_store.py")
 TABLES = "heads", "messages", "recipients", "lines", "marks", "notices", "holds", "ends"
 ELM = "elm,elmkey0000000001,1000,500000000,1000,100,14400,1000\n"
 SYSTEMCTL = """\

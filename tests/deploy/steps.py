@@ -35,7 +35,7 @@ def scripts_in(folder, here, customers="#!/bin/sh\n"):
     """A folder with `desk-backup` and `hq-restore` as they are for the places of a test, beside others that do nothing, or run what they
     are given as the user of the desks."""
     folder.mkdir()
-    for name in ("desk-backup", "hq-restore", "desk_apart.py", "desk_erasures.py", "desk_files.py", "desk_programs.py"):
+    for name in ("desk-backup", "hq-restore", "desk_apart.py", "desk_erasures.py", "desk_files.py", "desk_programs.py", "desk_restores.py"):
         text = (DEPLOY / name).read_text()
         for it, value in here.items():
             expect(name != "desk-backup" or it in text, "desk-backup has no", it)

@@ -28,7 +28,7 @@ def test_path(folder):
             mark, prints = f"{PYTHON}\n", f"    import shutil\n    sys.exit(print(shutil.which({wanted!r})))\n"
         expect(text.count(mark) == 1, name, "goes by the path of whoever calls it")
         text = text.replace(mark, mark + prints)
-        for it in ("desk_erasures.py", "desk_files.py", "desk_moves.py", "desk_programs.py"):
+        for it in ("desk_erasures.py", "desk_files.py", "desk_moves.py", "desk_programs.py", "desk_restores.py"):
             shutil.copy(DEPLOY / it, folder)
         for path, content in ((folder / name, text), (folder / "desk_apart.py", (DEPLOY / "desk_apart.py").read_text())):
             path.write_text(content.replace("/usr/sbin", str(folder / "sbin")))

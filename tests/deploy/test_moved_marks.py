@@ -70,6 +70,17 @@ def test_a_store_that_comes_back_meanwhile(place, step):
     expect("no store has records of dale" in ended.stderr, step, "nothing is told of what is lost:", ended)
 
 
+def test_a_desk_that_is_put_back(place):
+    """Until the restore of a desk is done nobody is moved from it or to it, or dropped: the worker would not send again what the copy lacks."""
+    for name, mark in (("north", "restoring"), ("south", "restoring"), ("north", "fitting"), ("south", "fitting")):
+        (place.place / f"stopped/{name}.{mark}").touch()
+        for words in (("move", "dale", "--desk", "south"), *([("drop", "dale")] if name == "north" else [])):
+            ended = place.run(*words)
+            expect(ended.returncode == 1 and f"the store of {name} is being put back" in ended.stderr, name, mark, words, "ended with", ended)
+        (place.place / f"stopped/{name}.{mark}").unlink()
+    expect(place.has("north") == place.before, "dale has", place.has("north"))
+
+
 def test_killed_while_rows_go(place):
     """hq-customers is killed while rows are copied, which goes on: the same line waits for that, and ends the move."""
     place.put(place.scripts / "slow-rows", (place.scripts / "move-customer").read_text())

@@ -7,12 +7,13 @@ import os
 import shutil
 import signal
 import subprocess
+import sys
 import tarfile
 import time
 
 import pytest
 from deploying import DEPLOY, HEADER
-from serving import expect, listens, until
+from serving import LONGEST, expect, listens, until
 from started_place import is_set_up, place_in, run, words
 
 # What hq-restore calls, in their order, and each word by which a stand-in knows a step of its own.
@@ -22,7 +23,9 @@ echo "{name} $*" >>{folder}/steps
 [ ! -e {folder}/waits ] || case "{name} $*" in *"$(cat {folder}/waits)"*) : >{folder}/there; sleep 30 ;; esac
 [ ! -e {folder}/fails ] || case "{name} $*" in *"$(cat {folder}/fails)"*) exit 1 ;; esac
 """
-STEPS = ("desk-stop", "desk-backup --any", "tar -x", "erase-again", "migrate", "desk-start north", "restored", "desk-start relay")
+# (a store begins so)
+STORE = "SQLite format 3\0"
+STEPS = ("desk-stop", "desk-backup --any", "tar -x -p", "erase-again", "migrate", "desk-start north", "restored", "desk-start relay")
 OTHER = HEADER + "acme,acmekey000000001,1000,500000000,1000,1000,14400\n"
 
 
@@ -32,7 +35,7 @@ class Place:
     def __init__(self, folder):
         self.folder = place_in(folder)
         self.scripts = folder / "bin"
-        for name in ("hq-restore", "desk_erasures.py", "desk_programs.py"):
+        for name in ("hq-restore", "desk_erasures.py", "desk_programs.py", "desk_restores.py"):
             text = (DEPLOY / name).read_text()
             for it, here in (("/var/lib/hq-desk-stopped", "stopped"), ("/etc/hq", ""), ("/var/lib/hqdesk", "stores")):
                 text = text.replace(it, str(folder / here) if here else str(folder))
@@ -48,6 +51,7 @@ class Place:
         (folder / "relay.ini").write_text("[desk]\ndesks = desks.csv\n")
         self.addresses = {it: is_set_up(folder, it) for it in ("north", "south")}
         for name in self.addresses:
+            self.store(name).write_text(STORE)
             (folder / f"{name}.key").write_text("relaykey000000001\n")
             (folder / f"{name}.csv").write_text(OTHER.replace("acme", {"north": "acme", "south": "birch"}[name]))
         for it in ("hq-relay-intake.service", "hq-relay-deliver.service"):
@@ -56,7 +60,7 @@ class Place:
         self.backup = folder / "backup"
         self.run("real-desk-backup", self.backup, "north", "south")
         for name in ("north", "south"):
-            self.store(name).write_text("of later")
+            self.store(name).write_text(f"{STORE} of now")
 
     def put(self, name, text):
         (self.scripts / name).write_text(text)
@@ -82,7 +86,7 @@ class Place:
 
     def is_done(self, *about, worker=True):
         """The store is that of the copy, all runs, and no mark is left."""
-        expect(self.store().read_text() == "a store" and self.marks() == ([] if worker else ["relay"]), *about, "there are", self.marks())
+        expect(self.store().read_text() == STORE and self.marks() == ([] if worker else ["relay"]), *about, "there are", self.marks())
         last = (self.folder / "called").read_text().splitlines()[-1]
         expect(("start hq-relay-intake.service hq-relay-deliver.service" == last) == worker, *about, "the last call is", last)
         expect(listens(self.addresses["north"]), *about, "north does not listen")
@@ -117,8 +121,8 @@ def test_order(place):
     for it in (f"hq-customers erase-again north --copy {place.backup}", f"hq-as hqrelay hq-relay {place.folder}/relay.ini restored north --copied {moment}"):
         expect(it in steps, "no step is", it)
     with tarfile.open(place.folder / "aside/north.tar") as tar:
-        expect(tar.extractfile("north.db").read() == b"of later", "aside is another store")
-    expect(place.store("south").read_text() == "of later", "another store was put back")
+        expect(tar.extractfile("north.db").read() == f"{STORE} of now".encode(), "aside is another store")
+    expect(place.store("south").read_text() == f"{STORE} of now", "another store was put back")
     ended = place.run("hq-restore")
     expect(ended.returncode == 1 and "no restore is under way" in ended.stderr, "again", ended)
 
@@ -127,28 +131,26 @@ def test_order(place):
 @pytest.mark.parametrize("step", STEPS[2:])
 def test_goes_on(place, step, how):
     """Where a step fails, or all of it is killed there, the same command goes on, whatever boots come between."""
-    (place.folder / how).write_text(step)
     if how == "fails":
+        (place.folder / how).write_text(step)
         ended = place.restore()
         expect(ended.returncode == 1 and "type `hq-restore` without words" in ended.stderr, "it ended with", ended)
     else:
-        going = subprocess.Popen(start_new_session=True, **words(place.folder, "hq-restore", "north", "--backup", place.backup, "--aside",
-                                                                  place.folder / "aside"))
-        until((place.folder / "there").exists, "it does not come so far")
+        going = until_it_waits(place, step)
         ended = place.run("hq-restore")
         expect(ended.returncode == 1 and "another hq-restore is at work" in ended.stderr, "two at once", ended)
         os.killpg(going.pid, signal.SIGKILL)
         going.wait()
-    (place.folder / how).unlink()
+    (place.folder / how).unlink(missing_ok=True)
     place.is_kept(step)
     if STEPS.index(step) > STEPS.index("desk-start north"):
-        place.store().write_text("a store of later")
+        place.store().write_text(f"{STORE} of later")
     ended = place.run("hq-restore")
     expect(ended.returncode == 0, "it ended with", ended)
     if STEPS.index(step) > STEPS.index("desk-start north"):
         # (its customers have worked by it since)
-        expect(place.store().read_text() == "a store of later", "the store was put back once more")
-        place.store().write_text("a store")
+        expect(place.store().read_text() == f"{STORE} of later", "the store was put back once more")
+        place.store().write_text(STORE)
     place.is_done(step)
 
 
@@ -161,38 +163,98 @@ def test_nothing_is_changed(place, step):
             (place.folder / "stopped" / it).touch()
         ended = place.restore(aside=f"aside-{len(stopped)}")
         expect(ended.returncode == 1 and "goes on" not in ended.stderr, "it ended with", ended)
-        expect(place.store().read_text() == "of later" and place.marks() == stopped, stopped, "there are", place.marks())
+        expect(place.store().read_text() == f"{STORE} of now" and place.marks() == stopped, stopped, "there are", place.marks())
+
+
+def until_it_waits(place, step, *names):
+    """A restore that waits in a step, in a session of its own."""
+    (place.folder / "waits").write_text(step)
+    going = subprocess.Popen(start_new_session=True, stderr=subprocess.PIPE, **words(place.folder, "hq-restore", *(names or ["north"]), "--backup",
+                                                                                       place.backup, "--aside", place.folder / "aside"))
+    until((place.folder / "there").exists, "it does not come so far")
+    (place.folder / "waits").unlink()
+    return going
 
 
 def test_killed_before(place):
-    """Killed before there is a copy of what is there, the next call starts all again, and the same line with a new folder does all of it."""
-    (place.folder / "waits").write_text("desk-backup --any")
-    going = subprocess.Popen(start_new_session=True, **words(place.folder, "hq-restore", "north", "--backup", place.backup, "--aside",
-                                                              place.folder / "aside"))
-    until((place.folder / "there").exists, "it does not come so far")
+    """Killed before there is a copy of what is there, it goes on with another folder for that, and starts what ran before."""
+    going = until_it_waits(place, "desk-backup --any")
     os.killpg(going.pid, signal.SIGKILL)
     going.wait()
-    (place.folder / "waits").unlink()
     (place.folder / "aside").mkdir()
-    ended = place.restore()
-    expect(ended.returncode == 1 and "is there already: name a new folder" in ended.stderr, "the folder of before", ended)
-    ended = place.restore(aside="another")
-    expect(ended.returncode == 0, "it ended with", ended)
+    ended = place.run("hq-restore")
+    expect(ended.returncode == 0 and (place.folder / "aside.1/north.tar").exists(), "it ended with", ended)
     place.is_done()
+
+
+def test_interrupted(place):
+    """Who ends it by Ctrl-C, and types that again and again, before anything is put back has all of it run as before."""
+    going = until_it_waits(place, "desk-backup --any", "north", "south")
+    for _ in range(20):
+        os.killpg(going.pid, signal.SIGINT)
+        time.sleep(0.2)
+    _, told = going.communicate(timeout=LONGEST)
+    expect(going.returncode == 1 and "goes on" not in told and not place.marks(), "it ended with", told, place.marks())
+    expect(all(map(listens, place.addresses.values())) and place.store().read_text() == f"{STORE} of now", "some do not run")
+    expect("start hq-relay-intake.service hq-relay-deliver.service" in (place.folder / "called").read_text().splitlines()[-1], "the worker does not run")
+
+
+def test_cannot_be_written(place):
+    """Where it cannot be written down what is to be done, nothing is done."""
+    (place.folder / "stopped/.restore.new").mkdir()
+    ended = place.restore()
+    expect(ended.returncode == 1 and "goes on" not in ended.stderr and place.marks() == [".restore.new"], "it ended with", ended)
+    expect(not [it for it in place.steps() if "desk-stop" in it], "something was stopped")
+
+
+def test_a_desk_that_is_gone(place):
+    """A desk whose settings are gone holds up the others until somebody says that it is gone for good."""
+    (place.folder / "fails").write_text("migrate")
+    place.restore("south", "north")
+    (place.folder / "fails").unlink()
+    kept = (place.folder / "south.env").read_text()
+    (place.folder / "south.env").unlink()
+    ended = place.run("hq-restore")
+    expect(ended.returncode == 1 and "south.env is missing: put it back; or, if south is gone for good, type `hq-customers drop-desk south`" in ended.stderr,
+           "it ended with", ended)
+    (place.folder / "south.env").write_text(kept)
+    expect(place.restore("north", aside="another").returncode == 0, "with its settings it does not go on")
+    place.is_done("with its settings")
+    (place.folder / "fails").write_text("migrate")
+    place.restore("south", "north", aside="third")
+    (place.folder / "fails").unlink()
+    (place.folder / "south.env").unlink()
+    given_up = subprocess.run([sys.executable, "-c", "import desk_restores; desk_restores.give_up(['south'])"], cwd=place.scripts, capture_output=True,
+                              text=True, timeout=LONGEST)
+    expect("is half done" in given_up.stdout and place.run("hq-restore").returncode == 0, "it is not given up", given_up)
+    expect("south.restoring" not in place.marks() and listens(place.addresses["north"]), "there are", place.marks())
+
+
+def test_beside_the_store(place):
+    """What somebody has put beside the store stays."""
+    (place.folder / "stores/north.db.broken").write_text("of the operator")
+    expect(place.restore().returncode == 0 and (place.folder / "stores/north.db.broken").read_text() == "of the operator", "it is gone")
 
 
 def test_refused(place):
     """Words and copies that are none change nothing."""
     (place.folder / "there is").mkdir()
     empty = place.folder / "empty"
-    for name in ("of another", "half", "without a store", "moved"):
+    for name in ("of another", "half", "without a store", "no store", "moved"):
         (place.folder / name).mkdir()
     (place.folder / "of another/north.tar").write_bytes((place.backup / "south.tar").read_bytes())
     (place.folder / "half/north.tar").write_bytes((place.backup / "north.tar").read_bytes()[:700])
     with tarfile.open(place.folder / "without a store/north.tar", "w"):
         pass
-    for it in ("north.tar", "north.erased.csv"):
-        shutil.copy(place.backup / it, place.folder / "moved")
+    (place.folder / "north.db").touch()
+    with tarfile.open(place.folder / "no store/north.tar", "w") as tar:
+        tar.add(place.folder / "north.db", "north.db")
+    for it in ("north.tar", "north.erased.csv", "north.desks.csv"):
+        for name in ("moved", "without a store", "no store", "of another", "half"):
+            if not (place.folder / name / it).exists():
+                shutil.copy(place.backup / it, place.folder / name)
+    (place.folder / "without lists").mkdir()
+    shutil.copy(place.backup / "north.tar", place.folder / "without lists")
     (place.folder / "moved/north.desks.csv").write_text("customer,desk\nacme,south\nbirch,south\n")
     new = ("--aside", place.folder / "new")
     for given, why in ((("north",), "name desks, --backup and --aside"), (("north", *new), "name desks, --backup and --aside"),
@@ -201,11 +263,13 @@ def test_refused(place):
                        (("north", "--backup", place.backup, "--aside", place.folder / "there is"), "is there already"),
                        (("north", "--backup", place.folder / "of another", *new), "is no copy of north"),
                        (("north", "--backup", place.folder / "half", *new), "is no copy of north"),
-                       (("north", "--backup", place.folder / "without a store", *new), "has no store"),
+                       (("north", "--backup", place.folder / "without a store", *new), "--empty has north begin anew"),
+                       (("north", "--backup", place.folder / "no store", *new), "--empty has north begin anew"),
+                       (("north", "--backup", place.folder / "without lists", *new), "north.erased.csv is missing"),
                        (("north", "--backup", place.folder / "moved", *new), "is from before acme moved there")):
         ended = place.run("hq-restore", *given)
         expect(ended.returncode == 1 and why in ended.stderr, given, "ended with", ended)
-        expect(place.store().read_text() == "of later" and not place.marks() and not (place.folder / "new").exists(), given, "changed", place.marks())
+        expect(place.store().read_text() == f"{STORE} of now" and not place.marks() and not (place.folder / "new").exists(), given, "changed", place.marks())
     expect("--without acme gives up" in ended.stderr, "it tells no way out:", ended)
     place.steps()
     ended = place.run("hq-restore", "north", "--backup", place.folder / "moved", *new, "--without", "acme")
@@ -219,7 +283,7 @@ def test_another_copy(place):
     (place.folder / "fails").unlink()
     place.steps()
     ended = place.run("hq-restore", "north", "--backup", place.folder / "aside", "--aside", place.folder / "aside")
-    expect(ended.returncode == 0 and place.store().read_text() == "of later" and not place.marks(), "it ended with", ended)
+    expect(ended.returncode == 0 and place.store().read_text() == f"{STORE} of now" and not place.marks(), "it ended with", ended)
     expect(not [it for it in place.steps() if "desk-backup" in it], "there is another copy aside")
     (place.folder / "fails").write_text("restored")
     place.restore(aside="second")
@@ -227,16 +291,27 @@ def test_another_copy(place):
     expect(ended.returncode == 1 and "north has started by the copy in" in ended.stderr, "it ended with", ended)
 
 
+def test_empty(place):
+    """Where no copy is any good, a desk begins anew, with no store; what was there is in the copy aside."""
+    for number, given in enumerate((place.backup, place.folder / "aside0")):
+        ended = place.run("hq-restore", "north", "--backup", given, "--aside", place.folder / f"aside{number}", "--empty")
+        expect(ended.returncode == 0 and not place.store().exists() and not place.marks(), number, "it ended with", ended)
+        expect(not [it for it in place.steps() if "migrate" in it], number, "a store was migrated")
+
+
 def test_several(place):
-    """The worker waits for all desks, whether they are named at once or not; where a list is missing clocks decide."""
-    (place.backup / "south.erased.csv").unlink()
-    ended = place.restore("north", "south")
-    expect(ended.returncode == 0 and place.store("south").read_text() == "a store", "it ended with", ended)
+    """The worker waits for all desks, whether they are named at once or not. Of a copy without lists clocks decide."""
+    for it in place.backup.glob("*.csv"):
+        it.unlink()
+    ended = place.run("hq-restore", "north", "south", "--backup", place.backup, "--aside", place.folder / "aside", "--by-clock")
+    expect(ended.returncode == 0 and place.store("south").read_text() == STORE, "it ended with", ended)
     place.is_done("both")
     steps = place.steps()
     expect("hq-customers erase-again south" in steps, "the steps are", steps)
     order = [it.split()[-4:-2] for it in steps if "restored" in it], [at for at, it in enumerate(steps) if "desk-start" in it or "restored" in it]
     expect([it[-1] for it in order[0]] == ["north", "south"] and len(order[1]) == 5, "the steps are", steps)
+    place.run("real-desk-backup", place.folder / "again", "north", "south")
+    place.backup = place.folder / "again"
     (place.folder / "fails").write_text("restored north")
     place.restore("north", aside="second")
     ended = place.restore("south", aside="third")
