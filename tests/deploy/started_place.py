@@ -43,6 +43,7 @@ echo $! >"{folder}/pid-$name"
 HQ_AS = """\
 #!/bin/sh
 while [ -e {folder}/slow ]; do sleep 0.05; done
+[ "$1" != --input ] || shift
 shift
 exec "$@"
 """
