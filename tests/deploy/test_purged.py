@@ -53,6 +53,13 @@ def test_waiting_mail(purged):
     expect("put /etc/hq back from its backup before that, else it bounces" in told, "it tells", told)
 
 
+@pytest.mark.parametrize("mark, stays", [("north", False), (".restore", True), ("north.restoring", True), ("north.fitting", True), ("north.moving", True)])
+def test_half_a_store(purged, folder, mark, stays):
+    """The mark of a store that is half put back, or of a half move, stays with the store; one of desk-stop goes."""
+    told = purged({f"var/lib/hq-desk-stopped/{mark}": ""})
+    expect((folder / "var/lib/hq-desk-stopped").exists() == stays == ("/var/lib/hq-desk-stopped stays" in told), "it tells", told)
+
+
 def test_drop_ins(purged, folder):
     """What the lines of the pages have put beside units of others goes, and an empty folder with it; a file of somebody else's stays."""
     units = "nginx.service", "logrotate.timer", "nftables.service", "postfix.service", "postfix@.service"

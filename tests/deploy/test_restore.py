@@ -334,4 +334,7 @@ def test_worker(place):
     expect(ended.returncode == 0 and not [it for it in place.steps() if "relay" in it], "it ended with", ended)
     (place.folder / "relay.ini").write_text("[desk]\n")
     ended = place.restore(aside="third")
+    expect(ended.returncode == 1 and "has no line `desks = desks.csv`" in ended.stderr and not place.steps(), "of a worker with two desks", ended)
+    (place.folder / "south.env").unlink()
+    ended = place.restore(aside="third")
     expect(ended.returncode == 0 and any(" restored --copied " in it for it in place.steps()), "of a worker with one desk", ended)
