@@ -2,15 +2,17 @@
 or is a customer of another desk."""
 import argparse
 import sys
-from datetime import datetime, timezone
+from datetime import datetime, timedelta, timezone
 from pathlib import Path
-from typing import Dict, List, NamedTuple, Optional
+from typing import Dict, List, NamedTuple, Optional, Tuple
 
 import desk_programs
 from desk_apart import under_way
 from desk_files import DESKS, MOMENT, Desk, Erased, Folder, Refused, erased_in, now, table_of
 
 
+# How long an erasure takes at most.
+LONGEST_ERASURE = timedelta(hours=1)
 # Where the lines are that an operator types.
 PAGE = "/usr/share/doc/hq-desk/PROCEDURES.md.gz"
 
@@ -37,11 +39,9 @@ def erase_at(scripts: Path, folder: Folder, given: argparse.Namespace) -> None:
 def erase_again(scripts: Path, folder: Folder, desk: Desk, given: argparse.Namespace) -> List[Desk]:
     """Erases in the store of a desk, which a backup of before has brought back, whoever was erased since then."""
     if given.copy:
-        if not list_of(given.copy, desk.name, "erased").exists():
-            raise Refused(f"{given.copy} has no list of who was erased, as that of an earlier release: type the same without --copy")
         refuse_earlier(folder, desk, given.copy, given.without)
-    erased = "".join(f"{name} {since}\n" for name, since in sorted(erased_since(folder, desk, given.copy).items()))
-    found = desk_programs.of_store(scripts, desk.name, given.store, "erase-again", "-", erased)
+    names = erased_since_copy(folder, desk, given.copy) if given.copy else erased_since(folder, given.copied)
+    found = desk_programs.of_store(scripts, desk.name, given.store, "erase-again", "-", "".join(f"{it}\n" for it in names))
     print(f"the store of {desk.name}: {found[1] if found else 'there is none'}", flush=True)
     # (they are in nobody's way, and whoever is at another desk by settings of before would lose them)
     if others := misplaced(scripts, folder, given.store, desk.name):
@@ -63,16 +63,37 @@ def compare(scripts: Path, folder: Folder, stores: Path) -> List[Desk]:
     return []
 
 
-def erased_since(folder: Folder, desk: Desk, copy: Optional[Path]) -> Dict[str, str]:
-    """Whoever was erased, with the second up to which its records go; or `-` for all of them, where the copy of the store tells that
-    it is of before that erasure."""
-    if copy:
-        before = erased_in(list_of(copy, desk.name, "erased"))
-        return {name: "-" for name, it in folder.erased.items() if not is_same(before.get(name), it)}
-    # (by a moment that is still to come, of a clock that ran ahead, all that a customer has would be older)
-    if to_come := [f"{name} at {it.moment}" for name, it in sorted(folder.erased.items()) if it.moment > now()]:
-        raise Refused(f"erased.csv is ahead of the clock: {', '.join(to_come)}. Let the clock be right, or correct that row")
-    return {name: str(int(moment_of(it.moment).timestamp())) for name, it in folder.erased.items()}
+def retain(scripts: Path, folder: Folder, given: argparse.Namespace) -> List[Desk]:
+    """Erases what is older in each store, by portions, for each of which a desk is away."""
+    faults: List[str] = []
+    for desk in desk_programs.stores_in(given.store, folder.desks)[0]:
+        found: Optional[Tuple[int, str]] = desk_programs.MORE, ""
+        while found and found[0] == desk_programs.MORE:
+            found = None
+            with desk_programs.kept_for_later(faults):
+                found = desk_programs.of_store(scripts, desk, given.store, "retain", given.days)
+                print(f"{desk}: {found[1] if found else 'there is no store'}", flush=True)
+    desk_programs.told_at_last(faults)
+    return []
+
+
+def erased_since_copy(folder: Folder, desk: Desk, copy: Path) -> List[str]:
+    """Who was erased since desk-backup made a copy, by the list beside it."""
+    before = erased_in(list_of(copy, desk.name, "erased"))
+    return sorted(name for name, it in folder.erased.items() if not is_same(before.get(name), it))
+
+
+def erased_since(folder: Folder, copied: str) -> List[str]:
+    """Who was erased since a moment, for a copy without lists. Of somebody who has the name again it has to be sure."""
+    # (an erasure takes a while, and a clock that ran ahead at it has its moment still to come)
+    edge = (moment_of(copied) - LONGEST_ERASURE).strftime(MOMENT)
+    there = {*places_of(folder), *folder.dropped}
+    unsure = [f"{name} at {it.moment}" for name, it in sorted(folder.erased.items())
+              if name in there and (edge <= it.moment < copied or it.moment > now())]
+    if unsure:
+        raise Refused(f"it is not sure that this copy is from before these were erased, whose names somebody has again: {', '.join(unsure)}. Take "
+                      "a copy of desk-backup, or one of an hour later, or correct a row of erased.csv that is ahead of the clock")
+    return sorted(name for name, it in folder.erased.items() if it.moment >= edge)
 
 
 def is_same(before: Optional[Erased], after: Erased) -> bool:

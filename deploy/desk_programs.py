@@ -214,7 +214,7 @@ def kept_for_later(faults: List[str]) -> Iterator[None]:
     """A store at which nothing can be done keeps nobody from the others."""
     try:
         yield
-    except Refused as fault:
+    except (Refused, OSError) as fault:
         faults.append(str(fault))
 
 

@@ -43,8 +43,8 @@ class Restore(NamedTuple):
     without: List[str]
     # whether nothing is put back, and the desk begins anew
     is_empty: bool
-    # whether the copy has no lists beside it
-    by_clock: bool
+    # whether the copy has its lists beside it; else the moment decides
+    has_lists: bool
     # whether desk-stop had stopped the desk before
     was_stopped: bool
     step: str = BEGUN
@@ -55,8 +55,11 @@ class Restores:
 
     def __init__(self) -> None:
         told = json.loads(RECORD.read_text(encoding="utf-8")) if RECORD.exists() else {"desks": {}, "has_worker": False}
-        self.desks: Dict[str, Restore] = {desk: Restore(**it) for desk, it in told["desks"].items()}
-        self.has_worker: bool = told["has_worker"]
+        try:
+            self.desks: Dict[str, Restore] = {desk: Restore(**it) for desk, it in told["desks"].items()}
+            self.has_worker: bool = told["has_worker"]
+        except (TypeError, KeyError):
+            raise Refused(f"{RECORD} is none of this release: end that restore by the release that began it") from None
 
     def __bool__(self) -> bool:
         return bool(self.desks) or self.has_worker

@@ -12,10 +12,6 @@ TABLES = ("heads", "messages", "recipients", "lines", "marks", "notices", "holds
 # In seconds: how long the look at a store of whatever release takes at most.
 LONGEST_LOOK = 5
 
-# The tables whose rows have a moment, and where.
-MOMENTS = {"messages": "arrival", "notices": "moment", "ends": "moment"}
-
-
 class Refused(Exception):
     """Nothing was changed; the text says why."""
 
@@ -78,13 +74,6 @@ def names_in(store: sqlite3.Connection) -> List[str]:
     """Of whom a store has rows."""
     asked = " UNION ".join(f"SELECT customer FROM {it}" for it in tables_of(store))
     return sorted(name for name, in store.execute(asked))
-
-
-def has_older(store: sqlite3.Connection, name: str, moment: int) -> bool:
-    """Whether a store has a row of a customer from before a moment."""
-    asked = "SELECT 1 FROM {} WHERE customer = ? AND {} < ? LIMIT 1"
-    there = [(table, MOMENTS[table]) for table in tables_of(store) if table in MOMENTS]
-    return any(store.execute(asked.format(*it), (name, moment)).fetchone() for it in there)
 
 
 @contextlib.contextmanager

@@ -22,11 +22,17 @@ def place(folder, program):
     return Stores(folder, program)
 
 
+def text_of(moment):
+    return time.strftime("%Y-%m-%dT%H:%M:%SZ", time.gmtime(moment))
+
+
 def test_restored(place):
-    """In a store of before, whoever was erased since is erased again, and nobody else; what a new firm of the name has stays."""
+    """In a store of before a moment, whoever was erased since is erased again, and nobody else; what a new firm of the name has stays in one
+    of behind. Lines have no moment, and go too, whatever times files have."""
     now = int(time.time())
     wanted = place.told(place.filled("acme", now - DAY), now)
     place.filled("birch", now - DAY)
+    place.batch((now, "POST", "/v1/line-put", "birchkey00000001", {"class": "sender", "pattern": "p.example", "action": "HOLD"}))
     before = place.copy("before")
     place.done("drop", "birch", "--queued")
     place.done("erase", "birch")
@@ -36,26 +42,26 @@ def test_restored(place):
     place.put_back(before)
     expect('"history":[{' in place.told(key, now)[4], "the copy has nothing of the earlier one")
     place.put_back(before)
-    expect(" rows of birch\n" in place.done("erase-again", "north"), "nothing is erased again")
+    expect(" rows of birch\n" in place.done("erase-again", "north", "--copied", text_of(now - 2 * 3600)), "nothing is erased again")
     expect(place.told(key, now)[1:] == EMPTY, "the new one is told", place.told(key, now))
     expect(place.told("acmekey000000001", now) == wanted, "another customer is told", place.told("acmekey000000001", now))
-    # (a backup from behind the erase has the new firm's own)
+    # (a backup from well behind the erase has the new firm's own)
     place.filled_as("birch", key, int(time.time()) + 1)
     its, behind = place.told(key, now), place.copy("behind")
+    erased = (place.folder / "erased.csv").read_text()
+    (place.folder / "erased.csv").write_text(erased.replace(moment, text_of(now - 2 * 3600)))
     place.put_back(behind)
-    expect(place.done("erase-again", "north") == "the store of north: nothing of whoever was erased\n", "something of the new one is erased")
+    expect(place.done("erase-again", "north", "--copied", text_of(now)) == "the store of north: nothing of whoever was erased\n", "some of the new one")
     expect(place.told(key, now) == its, "the new one is told", place.told(key, now))
-
-
-def test_restored_by_a_clock_ahead(place):
-    """A row of erased.csv that is still to come, of a clock that ran ahead, erases nobody: it is refused by its name."""
-    now = int(time.time())
-    wanted = place.told(place.filled("acme", now), now)
-    ahead = time.strftime("%Y-%m-%dT%H:%M:%SZ", time.gmtime(now + DAY))
-    (place.folder / "erased.csv").write_text(f"name,moment\nacme,{ahead}\n")
-    ended = place.run("erase-again", "north")
-    expect(ended.returncode == 1 and f"ahead of the clock: acme at {ahead}" in ended.stderr, "it ended with", ended)
-    expect(place.told("acmekey000000001", now) == wanted, "acme is told", place.told("acmekey000000001", now))
+    # (within the hour, and by a clock that ran ahead, nobody is sure; of a name that nobody has again it does no harm)
+    for at in (now - 60, now + DAY):
+        (place.folder / "erased.csv").write_text(erased.replace(moment, text_of(at)))
+        ended = place.run("erase-again", "north", "--copied", text_of(now))
+        expect(ended.returncode == 1 and f"birch at {text_of(at)}" in ended.stderr and place.told(key, now) == its, at, "ended with", ended)
+    place.done("drop", "birch", "--queued")
+    place.done("erase", "birch")
+    place.put_back(behind)
+    expect(" rows of birch\n" in place.done("erase-again", "north", "--copied", text_of(int(time.time()))), "nobody's rows stay")
 
 
 def with_lists(place, copied):
@@ -89,13 +95,11 @@ def test_restored_by_its_list(place):
         expect(place.told(key, now) == its, "the new one is told", place.told(key, now))
     place.put_back(before, now + DAY)
     expect(" rows of birch\n" in place.done("erase-again", "north", "--copy", before), "nothing is erased again")
-    ended = place.run("erase-again", "north", "--copy", place.folder)
-    expect(ended.returncode == 1 and "without --copy" in ended.stderr, "without a list", ended)
 
 
 @pytest.mark.parametrize("version", [1, 2])
 def test_a_store_of_an_earlier_release(place, version):
-    """It is erased in before it is migrated, by clocks, since its copy has no list; whatever else works at a store refuses it, and tells why."""
+    """It is erased in before it is migrated; whatever else works at a store refuses it, and tells why."""
     for end in ("", "-wal"):
         old = DEPLOY.parent / f"tests/examples/migration/version-{version}.db{end}"
         if old.exists():
@@ -110,7 +114,7 @@ def test_a_store_of_an_earlier_release(place, version):
     expect(ended.returncode == 1 and "is a store of an earlier release: `hq migrate` comes first" in ended.stderr, "retain ended with", ended)
     told = subprocess.run([DEPLOY / "desk-store", "erase", place.stores / "north.db", names[-1]], capture_output=True, text=True, timeout=LONGEST)
     expect(told.returncode == 0 and told.stdout != "0 rows\n", "it is not erased in", told)
-    ended = place.run("erase-again", "north")
+    ended = place.run("erase-again", "north", "--copied", text_of(now - DAY))
     expect(ended.returncode == 0 and f" rows of {names[0]}\n" in ended.stdout, "erase-again ended with", ended)
     told = subprocess.run([place.bin / "hq", "migrate", "--store", place.stores / "north.db"], capture_output=True, text=True, timeout=LONGEST)
     expect(told.returncode == 0, "it is not migrated:", told)
@@ -161,16 +165,18 @@ def test_records_at_another_desk(place):
     expect("leave out --same-firm" in place.run("--files", "move", "birch", "--desk", "north", "--same-firm").stderr, "no records")
 
 
-def test_restored_without_rows_of_a_day(place):
-    """So is one of whom a store of before has rows without a moment alone; a copy that is said to be newer goes by its rows."""
+def test_nobodys_records(place):
+    """Settings of before somebody came: it is told that a store has records of nobody's, and that firm finds them again."""
     now = int(time.time())
-    place.batch((now, "POST", "/v1/line-put", "birchkey00000001", {"class": "sender", "pattern": "p.example", "action": "HOLD"}))
-    lines = place.copy("lines")
-    place.filled("birch", now - DAY)
-    rows = place.copy("rows")
-    place.done("drop", "birch", "--queued")
-    place.done("erase", "birch")
-    for copied, at in ((lines, now - DAY), (rows, now + DAY)):
-        place.put_back(copied, at)
-        expect(" rows of birch\n" in place.done("erase-again", "north"), copied, "stays")
-    expect(place.run("erase-again", "south").returncode == 1, "there is a desk south")
+    settings = shutil.copytree(place.folder, place.folder.parent / "settings")
+    place.done("set", "acme", "--messages", "999")
+    place.done("add", "fir", "--messages", "10")
+    key = [it.split(",")[1] for it in (place.folder / "north.csv").read_text().splitlines() if it.startswith("fir,")][0]
+    place.batch((now, "POST", "/v1/line-put", key, {"class": "sender", "pattern": "p.example", "action": "HOLD"}))
+    shutil.rmtree(place.folder)
+    shutil.copytree(settings, place.folder)
+    ended = place.run("compare")
+    expect(ended.returncode == 1 and "north has records of fir, who is no customer by" in ended.stderr
+           and "`hq-customers add fir --desk north --same-firm`" in ended.stderr, "it ended with", ended)
+    place.done("add", "fir", "--desk", "north", "--same-firm")
+    place.done("compare")

@@ -134,7 +134,8 @@ def test_goes_on(place, step, how):
     if how == "fails":
         (place.folder / how).write_text(step)
         ended = place.restore()
-        expect(ended.returncode == 1 and "type `hq-restore` without words" in ended.stderr, "it ended with", ended)
+        goes_on = "all else is done" if step == "desk-start relay" else "type `hq-restore` without words"
+        expect(ended.returncode == 1 and goes_on in ended.stderr, "it ended with", ended)
     else:
         going = until_it_waits(place, step)
         ended = place.run("hq-restore")
@@ -145,7 +146,8 @@ def test_goes_on(place, step, how):
     place.is_kept(step)
     if STEPS.index(step) > STEPS.index("desk-start north"):
         place.store().write_text(f"{STORE} of later")
-    ended = place.run("hq-restore")
+    is_last = (step, how) == ("desk-start relay", "fails")
+    ended = place.run("real-desk-start", "relay") if is_last else place.run("hq-restore")
     expect(ended.returncode == 0, "it ended with", ended)
     if STEPS.index(step) > STEPS.index("desk-start north"):
         # (its customers have worked by it since)
@@ -230,6 +232,17 @@ def test_a_desk_that_is_gone(place):
     expect("south.restoring" not in place.marks() and listens(place.addresses["north"]), "there are", place.marks())
 
 
+def test_one_of_several(place):
+    """A desk whose store is not put back keeps no other one from its start, and the worker waits for both."""
+    (place.folder / "fails").write_text("erase-again north")
+    ended = place.restore("north", "south")
+    expect(ended.returncode == 1 and listens(place.addresses["south"]) and place.store("south").read_text() == STORE, "it ended with", ended)
+    expect({"north", "relay", "north.restoring"} <= {*place.marks()} and "south.fitting" not in place.marks(), "there are", place.marks())
+    (place.folder / "fails").unlink()
+    expect(place.run("hq-restore").returncode == 0, "it does not go on")
+    place.is_done("behind the other")
+
+
 def test_beside_the_store(place):
     """What somebody has put beside the store stays."""
     (place.folder / "stores/north.db.broken").write_text("of the operator")
@@ -266,6 +279,8 @@ def test_refused(place):
                        (("north", "--backup", place.folder / "without a store", *new), "--empty has north begin anew"),
                        (("north", "--backup", place.folder / "no store", *new), "--empty has north begin anew"),
                        (("north", "--backup", place.folder / "without lists", *new), "north.erased.csv is missing"),
+                       (("north", "--backup", place.folder / "without lists", *new, "--copied", "yesterday"), "is no moment"),
+                       (("north", "--backup", place.folder / "without lists", *new, "--copied", "2999-01-01T00:00:00Z"), "is still to come"),
                        (("north", "--backup", place.folder / "moved", *new), "is from before acme moved there")):
         ended = place.run("hq-restore", *given)
         expect(ended.returncode == 1 and why in ended.stderr, given, "ended with", ended)
@@ -293,21 +308,22 @@ def test_another_copy(place):
 
 def test_empty(place):
     """Where no copy is any good, a desk begins anew, with no store; what was there is in the copy aside."""
-    for number, given in enumerate((place.backup, place.folder / "aside0")):
-        ended = place.run("hq-restore", "north", "--backup", given, "--aside", place.folder / f"aside{number}", "--empty")
+    for number in range(2):
+        ended = place.run("hq-restore", "north", "--empty", "--aside", place.folder / f"aside{number}")
         expect(ended.returncode == 0 and not place.store().exists() and not place.marks(), number, "it ended with", ended)
         expect(not [it for it in place.steps() if "migrate" in it], number, "a store was migrated")
 
 
 def test_several(place):
-    """The worker waits for all desks, whether they are named at once or not. Of a copy without lists clocks decide."""
+    """The worker waits for all desks, whether they are named at once or not. Of a copy without lists its moment decides."""
     for it in place.backup.glob("*.csv"):
         it.unlink()
-    ended = place.run("hq-restore", "north", "south", "--backup", place.backup, "--aside", place.folder / "aside", "--by-clock")
+    ended = place.run("hq-restore", "north", "south", "--backup", place.backup, "--aside", place.folder / "aside", "--copied",
+                      "2026-01-02T03:04:05Z")
     expect(ended.returncode == 0 and place.store("south").read_text() == STORE, "it ended with", ended)
     place.is_done("both")
     steps = place.steps()
-    expect("hq-customers erase-again south" in steps, "the steps are", steps)
+    expect("hq-customers erase-again south --copied 2026-01-02T03:04:05Z" in steps, "the steps are", steps)
     order = [it.split()[-4:-2] for it in steps if "restored" in it], [at for at, it in enumerate(steps) if "desk-start" in it or "restored" in it]
     expect([it[-1] for it in order[0]] == ["north", "south"] and len(order[1]) == 5, "the steps are", steps)
     place.run("real-desk-backup", place.folder / "again", "north", "south")
@@ -327,6 +343,13 @@ def test_worker(place):
     ended = place.restore()
     expect(ended.returncode == 0 and "The worker stays stopped" in ended.stdout, "it ended with", ended)
     place.is_done(worker=False)
+    # (nor one that somebody has stopped behind a restore that could not start it)
+    (place.folder / "fails").write_text("desk-start relay")
+    place.run("real-desk-start", "relay")
+    place.restore(aside="failed")
+    (place.folder / "fails").unlink()
+    place.run("real-desk-stop", "relay")
+    expect("The worker stays stopped" in place.restore(aside="behind").stdout and place.marks() == ["relay"], "it was started", place.marks())
     place.run("real-desk-start", "relay")
     (place.folder / "relay.ini").unlink()
     place.steps()

@@ -77,7 +77,7 @@ def test_a_new_release_of_debian(folder):
 def test_a_restore_is_on_the_disk():
     """hq-restore writes a store behind its lock, and syncs before it lets anybody else open it."""
     script = (DEPLOY / "hq-restore").read_text()
-    expect(re.search(r'(?m)^PUTS_BACK = .*rm -f -- "\$0"\.db\* && tar -x -p -- "\$@" && sync -- "\$@" \.', script), "it puts back by another line")
+    expect(re.search(r'(?ms)^PUTS_BACK = .{,60}set -e; cd .*rm -f -- "\$0\.db".*tar -x -p -- "\$@"; sync -- "\$@"; fi; sync \.', script), "it puts back by another line")
     expect('do(HERE / "desk-restart", desk, "--stopped", "--input", "sh", "-c", PUTS_BACK,' in script, "it has no lock")
 
 
