@@ -109,6 +109,13 @@ function stranger({ detail: fault }) {
   askForKey(words);
 }
 
+// Asks for what is looked at anew: the queue, and what a view has beside it.
+async function lookAgain() {
+  await refresh();
+  const view = VIEWS[viewOf(chosen)];
+  if (desk.at && !desk.fault && !view.draw && !by("views").hidden) view.open();
+}
+
 // ---- the start
 
 when("stranger", stranger);
@@ -140,7 +147,7 @@ for (const tab of tabs) {
 by("key-form").addEventListener("submit", useKey);
 by("forget").addEventListener("click", leave);
 by("told-close").addEventListener("click", sayNothing);
-by("refresh").addEventListener("click", refresh);
+by("refresh").addEventListener("click", lookAgain);
 by("away-again").addEventListener("click", refresh);
 wearColours();
 tellWho();

@@ -2,6 +2,7 @@
 import http.client
 import time
 
+import pytest
 from page_desk import proxy
 from paper import Paper, message
 from serving import ACME, LONGEST, expect
@@ -46,6 +47,21 @@ def test_it_refreshes_by_itself(visit, paper):
     browser.run(HIDDEN, False)
     browser.until(lambda: reports(paper) > before, "it is not asked when somebody comes back")
     browser.protocol("Page.removeScriptToEvaluateOnNewDocument", identifier=script)
+
+
+@pytest.mark.parametrize("view, path", [("sent", "/v1/history"), ("rules", "/v1/lines"), ("notices", "/v1/notices")])
+def test_each_view_is_asked_for_anew(visit, paper, view, path):
+    """The button asks for what is looked at too, beside the queue."""
+    visit.on_paper(view)
+    visit.settled()
+
+    def asked():
+        return sum(at.partition("?")[0] == path for _, at, _ in paper.asked)
+
+    before = asked()
+    visit.browser.click("#refresh")
+    # (the queue has the newest of the history too)
+    visit.browser.until(lambda: asked() > before + (view == "sent"), view, "is not asked for anew")
 
 
 def test_marks_and_detail_survive_a_refresh(visit, paper):
