@@ -33,10 +33,10 @@ def refuse_meanwhile(folder: Path, command: str, name: Optional[str], desk: Opti
         raise Refused(going.told())
 
 
-def refuse_restored(*desks: Desk) -> None:
-    """Refuses to take a customer from a desk, or to one, whose restore is under way: the worker would not send again what the copy lacks of
-    its mail."""
-    if why := next(filter(None, (restoring(it.name, OF_A_FIT) for it in desks)), None):
+def refuse_restored(*desks: Desk, is_fit_too: bool = True) -> None:
+    """Refuses to take a customer from a desk, or to one, whose store is being put back; and until the worker's book fits that store, since
+    the worker would not send again what the copy lacks of the customer's mail."""
+    if why := next(filter(None, (restoring(it.name, *([OF_A_FIT] if is_fit_too else [])) for it in desks)), None):
         raise Refused(why)
 
 
@@ -71,7 +71,8 @@ def move(scripts: Path, folder: Folder, given: argparse.Namespace, its_desk: Des
         print(f"{given.name} is at {target.name} already")
         end(scripts, folder, given.name)
         return
-    refuse_restored(its_desk, target)
+    # (a restore waits for the end of a half move before its desk starts)
+    refuse_restored(its_desk, target, is_fit_too=not going)
     is_new = going is None
     going = going or Move(given.name, its_desk.name, target.name, IS_COPIED if given.same_firm else IS_ASKED, OF_FILES if given.files else OF_DESKS)
     if is_new:

@@ -79,6 +79,15 @@ def test_a_desk_that_is_put_back(place):
             expect(ended.returncode == 1 and f"the store of {name} is being put back" in ended.stderr, name, mark, words, "ended with", ended)
         (place.place / f"stopped/{name}.{mark}").unlink()
     expect(place.has("north") == place.before, "dale has", place.has("north"))
+    # (a half move goes on once the store is back, since the restore waits for that before its desk starts)
+    (place.folder / ".customers.moving").write_text("dale north south asked desks\n")
+    for it in ("north.moving", "south.moving", "south.restoring"):
+        (place.place / f"stopped/{it}").touch()
+    ended = place.move()
+    expect(ended.returncode == 1 and "the store of south is being put back" in ended.stderr, "it ended with", ended)
+    (place.place / "stopped/south.restoring").rename(place.place / "stopped/south.fitting")
+    ended = place.move()
+    expect(ended.returncode == 0 and any(place.has("south").values()), "a half move is held up:", ended)
 
 
 def test_killed_while_rows_go(place):
