@@ -101,6 +101,10 @@ STOPPED, OF_A_MOVE, OF_A_RESTORE, OF_A_FIT = Path("/var/lib/hq-desk-stopped"), "
 MOVING, IS_ASKED, IS_COPIED, OF_DESKS, OF_FILES = ".customers.moving", "asked", "copied", "desks", "files"
 
 
+# When each customer moved last, in a table of the folder of settings.
+MOVED, MOVES = "moved.csv", ["name", "moment"]
+
+
 class Move(NamedTuple):
     """A move that is under way, or that was stopped there."""
 

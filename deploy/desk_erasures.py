@@ -7,10 +7,13 @@ from pathlib import Path
 from typing import Dict, List, NamedTuple, Optional, Tuple
 
 import desk_programs
-from desk_apart import under_way
+from desk_apart import MOVED, MOVES, under_way
 from desk_files import DESKS, MOMENT, Desk, Erased, Folder, Refused, erased_in, now, table_of
+from desk_programs import NAME
 
 
+# So many names, and characters of each, are told that can be nobody's.
+MOST_ODD = 40
 # How long an erasure takes at most.
 LONGEST_ERASURE = timedelta(hours=1)
 # Where the lines are that an operator types.
@@ -115,6 +118,15 @@ def refuse_earlier(folder: Folder, desk: Desk, copy: Path, given_up: List[str]) 
                       f"is none, {' '.join(f'--without {it}' for it in moved)} gives up what they had")
 
 
+def refuse_moved(folder: Folder, desk: Desk, copied: str, given_up: List[str]) -> None:
+    """Refuses a copy of a moment before somebody moved to the desk, by what moves have written down."""
+    moved = {name: moment for name, moment in table_of(folder.path / MOVED, MOVES)}
+    since = sorted({row["name"] for row in desk.rows if moved.get(row["name"], "") >= copied} - {*given_up})
+    if since:
+        raise Refused(f"this copy of {desk.name} is from before {', '.join(since)} moved there, and has nothing of them: take a later one. If there "
+                      f"is none, {' '.join(f'--without {it}' for it in since)} gives up what they had")
+
+
 def later(desk: Desk, copy: Path) -> List[str]:
     """The customers of a desk who came after a copy was made."""
     known = {it[0] for it in table_of(list_of(copy, desk.name, "desks"), DESKS)}
@@ -131,7 +143,11 @@ def misplaced(scripts: Path, folder: Folder, stores: Path, desk: str) -> List[Mi
     dropped is known to have some.)"""
     its, going = places_of(folder), under_way(folder.path)
     found = desk_programs.of_store(scripts, desk, stores, "names", "-")
-    names = [it for it in (found[1].split() if found else ()) if it not in folder.dropped and (not going or it != going.customer)]
+    there = found[1].split("\n") if found else []
+    # (whoever has taken over the desks' user may write what root would type)
+    for it in [it for it in there if it and not NAME.fullmatch(it)][:MOST_ODD]:
+        print(f"{desk} has records of {ascii(it[:MOST_ODD])}, which is nobody's name: nobody reads them", file=sys.stderr, flush=True)
+    names = [it for it in there if NAME.fullmatch(it) and it not in folder.dropped and (not going or it != going.customer)]
     return [Misplaced(name, desk, its.get(name, "")) for name in names if its.get(name) != desk]
 
 

@@ -47,7 +47,7 @@ LOCK, WHOLE, BESIDE, GONE, TRIAL = ".customers.lock", ".customers.whole", ".cust
 # What a desk may be called: its name is part of those of files, of units and of metrics.
 DESK = re.compile(r"[0-9A-Za-z][0-9A-Za-z_-]{0,63}")
 # Tables of this folder that are no directory.
-OTHERS = ("relay", "senders", "dropped", "erased", "desks", "events", "up")
+OTHERS = ("relay", "senders", "dropped", "erased", "moved", "desks", "events", "up")
 # In seconds: how long another one may have the lock, and what a command may take.
 PATIENCE, LONGEST = 60, 120
 

@@ -15,8 +15,8 @@ from pathlib import Path
 from typing import List, Optional
 
 import desk_programs
-from desk_apart import IS_ASKED, IS_COPIED, MOVING, OF_A_FIT, OF_A_MOVE, OF_DESKS, OF_FILES, STOPPED, Move, alone, marked, restoring, run_apart, under_way
-from desk_files import FURTHER, Desk, Folder, Refused, sync
+from desk_apart import IS_ASKED, IS_COPIED, MOVED, MOVES, MOVING, OF_A_FIT, OF_A_MOVE, OF_DESKS, OF_FILES, STOPPED, Move, alone, marked, restoring, run_apart, under_way
+from desk_files import BESIDE, FURTHER, Desk, Folder, Refused, now, put_beside, sync, table_of, text_of
 
 # What works at stores, and would find the customer in both, or in none. (erase-again is for a store that comes back meanwhile.)
 OF_STORES = "erase", "retain", "compare"
@@ -62,6 +62,13 @@ def unmark(folder: Path) -> None:
     sync(folder)
 
 
+def write_down(folder: Path, name: str) -> None:
+    """Writes down when somebody moved: a copy of before, which has no list of who was at which desk, has nothing of it."""
+    moved = {**{it: moment for it, moment in table_of(folder / MOVED, MOVES)}, name: now()}
+    put_beside(folder / MOVED, text_of([MOVES, *([it, moment] for it, moment in sorted(moved.items()))]), 0o640, -1)
+    (folder / f"{MOVED}{BESIDE}").rename(folder / MOVED)
+
+
 def move(scripts: Path, folder: Folder, given: argparse.Namespace, its_desk: Desk, target: Desk) -> None:
     """Moves a customer, or ends a move that was stopped."""
     going = under_way(folder.path)
@@ -84,6 +91,7 @@ def move(scripts: Path, folder: Folder, given: argparse.Namespace, its_desk: Des
     desk_programs.go_on()
     mark(folder.path, going)
     do(scripts, folder, given, going)
+    write_down(folder.path, going.customer)
     unmark(folder.path)
     print(f"{given.name} is at {target.name} now")
 
@@ -92,6 +100,7 @@ def end(scripts: Path, folder: Folder, name: str) -> None:
     """Ends what is left of a move that was stopped behind its last step: a mark, and desks that were to start."""
     left = marked(folder.path)
     if left and left.customer == name:
+        write_down(folder.path, name)
         faults = [*desk_programs.reload_all(), *start(scripts, [it.name for it in folder.desks if it.name in (left.source, left.target)])]
         unmark(folder.path)
         if faults:

@@ -4,6 +4,7 @@ import configparser
 import contextlib
 import csv
 import os
+import re
 import shutil
 import signal
 import subprocess
@@ -18,6 +19,8 @@ from desk_files import DESK, LONGEST, Desk, Folder, Refused
 SPOOL = "/var/lib/hqrelay/spool"
 # In seconds: what the worker may take, which waits until nobody works by earlier settings.
 LONGEST_ERASING = 300
+# What a customer may be called.
+NAME = re.compile(r"[a-z0-9-]{1,32}")
 # What `desk-store` ends with where it did its work: wholly, where it knows no such customer, and where more is left.
 DONE, UNKNOWN, MORE = 0, 3, 4
 # So many seconds a `deliver` that has little under way takes to go by other tables, and nginx at most, whose processes of before take
@@ -159,7 +162,9 @@ def units_of(desk: str) -> List[str]:
 
 def has_unit(desk: str) -> bool:
     """Whether a unit of a desk runs, or starts at a boot."""
-    return shutil.which("systemctl") is not None and any(map(is_wanted, units_of(desk)))
+    # (that of the check is wanted by the desk alone, and systemd calls each such timer enabled)
+    desk_and_retention, check = units_of(desk)[:2], units_of(desk)[2]
+    return shutil.which("systemctl") is not None and (any(map(is_wanted, desk_and_retention)) or is_active(check))
 
 
 def end(desks: List[str]) -> None:
@@ -245,8 +250,9 @@ def refuse_customer(folder: Folder, name: str) -> None:
 
 def refuse_rows_beyond(folder: Folder) -> None:
     """Refuses to take somebody for dropped who was put into the worker's table by hand, and whose desk is beyond this machine."""
+    # (who was at a desk that was here before is dropped, wherever that desk is now)
     beyond = customers_beyond(folder)
-    for name in sorted(beyond.keys() & {*folder.by_hand}):
+    for name in sorted((beyond.keys() & {*folder.by_hand}) - {it[0] for it in folder.desks_before}):
         raise Refused(f"{folder.path / 'relay.csv'} has a row of {name}, a customer of the desk at {beyond[name][0]}, which is at another machine, and "
                       "nothing was changed. That table is of the desks of this machine alone, since two workers would send the mail of one "
                       "customer twice: take the row out, and those of its logins and domains out of senders.csv")

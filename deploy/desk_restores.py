@@ -15,8 +15,9 @@ from desk_apart import OF_A_FIT, OF_A_RESTORE, STOPPED
 from desk_files import Refused
 
 RECORD = STOPPED / ".restore"
-# The steps: nothing is changed yet, what was there is copied, and the desk may start by the copy.
-BEGUN, COPIED, BACK = "begun", "copied", "back"
+# The steps: nothing is changed yet, what was there is copied, and the desk may start by the copy; or it is given up, and the desk is to
+# start as it was.
+BEGUN, COPIED, BACK, OFF = "begun", "copied", "back", "off"
 
 
 @contextlib.contextmanager
@@ -80,7 +81,7 @@ class Restores:
 
     def mark(self) -> None:
         """Makes the marks those of what is written: whoever was stopped between has left others."""
-        wanted = {Path(STOPPED, (OF_A_FIT if it.step == BACK else OF_A_RESTORE).format(desk)) for desk, it in self.desks.items()}
+        wanted = {Path(STOPPED, (OF_A_FIT if it.step == BACK else OF_A_RESTORE).format(desk)) for desk, it in self.desks.items() if it.step != OFF}
         found = {path for end in (OF_A_FIT, OF_A_RESTORE) for path in STOPPED.glob(end.format("*"))}
         for path in wanted - found:
             path.touch(0o600)

@@ -180,3 +180,8 @@ def test_nobodys_records(place):
            and "`hq-customers add fir --desk north --same-firm`" in ended.stderr, "it ended with", ended)
     place.done("add", "fir", "--desk", "north", "--same-firm")
     place.done("compare")
+    # (who has taken over the desks' user writes what root would type)
+    with contextlib.closing(sqlite3.connect(place.stores / "north.db", isolation_level=None)) as store:
+        store.execute("UPDATE lines SET customer = 'a;touch${IFS}/root/it;' WHERE customer = 'fir'")
+    ended = place.run("compare")
+    expect(ended.returncode == 0 and "hq-customers" not in ended.stderr and "which is nobody's name" in ended.stderr, "it ended with", ended)

@@ -254,14 +254,16 @@ def test_erased_beyond_this_machine(place):
 
 
 def test_a_row_of_another_machine(place):
-    """A row of the worker's table that somebody wrote for a customer beyond this machine does not go in silence, and is no customer's here."""
+    """A row of the worker's table that somebody wrote for a customer beyond this machine does not go in silence."""
     has_far(place)
     place.done("set", "acme", "--messages", "997")
-    with open(place.folder / "relay.csv", "a") as file:
-        file.write("farfirm,,9,9,9,9,9\n")
+    (place.folder / "relay.csv").write_text((place.folder / "relay.csv").read_text() + "farfirm,,9,9,9,9,9\n")
     before, ended = place.files(), place.run("set", "acme", "--messages", "998")
-    expect(ended.returncode == 1 and place.files() == before, "it ended with", ended)
-    expect("relay.csv has a row of farfirm, a customer of the desk at 127.0.0.1:849" in ended.stderr, "it is told as", ended)
+    expect(ended.returncode == 1 and place.files() == before and "relay.csv has a row of farfirm, a customer of the desk at 127.0.0.1:849" in
+           ended.stderr, "it ended with", ended)
+    # (one who was at a desk that was here before is dropped)
+    (place.folder / "desks.csv").write_text("customer,desk\nfarfirm,far\n")
+    place.done("set", "acme", "--messages", "998")
 
 
 def test_a_desk_that_was_dropped(place):

@@ -49,6 +49,7 @@ class Place:
         self.put("hq-relay", "#!/bin/sh\n")
         self.put("real-hq-as", '#!/bin/sh\n[ "$1" != --input ] || shift\nshift\nexec "$@"\n')
         (folder / "relay.ini").write_text("[desk]\ndesks = desks.csv\n")
+        (folder / "desks.csv").write_text("customer,desk\nacme,north\nbirch,south\n")
         self.addresses = {it: is_set_up(folder, it) for it in ("north", "south")}
         for name in self.addresses:
             self.store(name).write_text(STORE)
@@ -123,8 +124,10 @@ def test_order(place):
     with tarfile.open(place.folder / "aside/north.tar") as tar:
         expect(tar.extractfile("north.db").read() == f"{STORE} of now".encode(), "aside is another store")
     expect(place.store("south").read_text() == f"{STORE} of now", "another store was put back")
+    # (a cut may leave marks without a record)
+    (place.folder / "stopped/south.fitting").touch()
     ended = place.run("hq-restore")
-    expect(ended.returncode == 1 and "no restore is under way" in ended.stderr, "again", ended)
+    expect(ended.returncode == 1 and "no restore is under way" in ended.stderr and not place.marks(), "again", ended, place.marks())
 
 
 @pytest.mark.parametrize("how", ["fails", "waits"])
@@ -186,19 +189,35 @@ def test_killed_before(place):
     (place.folder / "aside").mkdir()
     ended = place.run("hq-restore")
     expect(ended.returncode == 0 and (place.folder / "aside.1/north.tar").exists(), "it ended with", ended)
+    expect(f"What was there is in {place.folder}/aside.1\n" in ended.stdout, "it tells", ended)
     place.is_done()
 
 
 def test_interrupted(place):
     """Who ends it by Ctrl-C, and types that again and again, before anything is put back has all of it run as before."""
     going = until_it_waits(place, "desk-backup --any", "north", "south")
-    for _ in range(20):
+    end = time.monotonic() + 4
+    while going.poll() is None and time.monotonic() < end:
         os.killpg(going.pid, signal.SIGINT)
         time.sleep(0.2)
     _, told = going.communicate(timeout=LONGEST)
-    expect(going.returncode == 1 and "goes on" not in told and not place.marks(), "it ended with", told, place.marks())
+    # (Python itself ends by a signal that comes behind the last line)
+    expect(going.returncode in (1, -signal.SIGINT) and "goes on" not in told and not place.marks(), "it ended with", going.returncode, told, place.marks())
     expect(all(map(listens, place.addresses.values())) and place.store().read_text() == f"{STORE} of now", "some do not run")
     expect("start hq-relay-intake.service hq-relay-deliver.service" in (place.folder / "called").read_text().splitlines()[-1], "the worker does not run")
+
+
+def test_killed_as_it_gives_up(place):
+    """Killed while it starts again what it has stopped for nothing, the next call does that."""
+    (place.folder / "fails").write_text("desk-backup --any")
+    going = until_it_waits(place, "desk-start north", "north", "south")
+    os.killpg(going.pid, signal.SIGKILL)
+    going.wait()
+    subprocess.run(["pkill", "-9", "-f", f"{place.scripts}/desk-start"], check=False)
+    (place.folder / "fails").unlink()
+    ended = place.run("hq-restore")
+    expect(ended.returncode == 0 and "was given up" in ended.stdout and not place.marks(), "it ended with", ended, place.marks())
+    expect(all(map(listens, place.addresses.values())) and place.store().read_text() == f"{STORE} of now", "some do not run")
 
 
 def test_cannot_be_written(place):
@@ -220,7 +239,7 @@ def test_a_desk_that_is_gone(place):
     expect(ended.returncode == 1 and "south.env is missing: put it back; or, if south is gone for good, type `hq-customers drop-desk south`" in ended.stderr,
            "it ended with", ended)
     (place.folder / "south.env").write_text(kept)
-    expect(place.restore("north", aside="another").returncode == 0, "with its settings it does not go on")
+    expect(place.run("hq-restore").returncode == 0, "with its settings it does not go on")
     place.is_done("with its settings")
     (place.folder / "fails").write_text("migrate")
     place.restore("south", "north", aside="third")
@@ -239,6 +258,8 @@ def test_one_of_several(place):
     expect(ended.returncode == 1 and listens(place.addresses["south"]) and place.store("south").read_text() == STORE, "it ended with", ended)
     expect({"north", "relay", "north.restoring"} <= {*place.marks()} and "south.fitting" not in place.marks(), "there are", place.marks())
     (place.folder / "fails").unlink()
+    ended = place.restore("south", aside="another")
+    expect(ended.returncode == 1 and "north: a restore is under way" in ended.stderr, "another store is put back without a word", ended)
     expect(place.run("hq-restore").returncode == 0, "it does not go on")
     place.is_done("behind the other")
 
@@ -279,13 +300,18 @@ def test_refused(place):
                        (("north", "--backup", place.folder / "without a store", *new), "--empty has north begin anew"),
                        (("north", "--backup", place.folder / "no store", *new), "--empty has north begin anew"),
                        (("north", "--backup", place.folder / "without lists", *new), "north.erased.csv is missing"),
-                       (("north", "--backup", place.folder / "without lists", *new, "--copied", "yesterday"), "is no moment"),
+                       (("north", "--backup", place.folder / "without lists", *new, "--copied", "2026-11-3T02:00:00Z"), "is no moment"),
                        (("north", "--backup", place.folder / "without lists", *new, "--copied", "2999-01-01T00:00:00Z"), "is still to come"),
                        (("north", "--backup", place.folder / "moved", *new), "is from before acme moved there")):
         ended = place.run("hq-restore", *given)
         expect(ended.returncode == 1 and why in ended.stderr, given, "ended with", ended)
         expect(place.store().read_text() == f"{STORE} of now" and not place.marks() and not (place.folder / "new").exists(), given, "changed", place.marks())
     expect("--without acme gives up" in ended.stderr, "it tells no way out:", ended)
+    (place.folder / "moved.csv").write_text("name,moment\nacme,2026-11-30T02:00:00Z\n")
+    for copied, status in (("2026-11-30T01:59:59Z", 1), ("2026-11-30T02:00:01Z", 0)):
+        ended = place.run("hq-restore", "north", "--backup", place.folder / "without lists", "--aside", place.folder / "of a moment", "--copied", copied)
+        expect(ended.returncode == status and ("from before acme moved there" in ended.stderr) == (status == 1), copied, "ended with", ended)
+    place.store().write_text(f"{STORE} of now")
     place.steps()
     ended = place.run("hq-restore", "north", "--backup", place.folder / "moved", *new, "--without", "acme")
     expect(ended.returncode == 0 and any(it.endswith("/moved --without acme") for it in place.steps()), "it ended with", ended)
@@ -309,9 +335,11 @@ def test_another_copy(place):
 def test_empty(place):
     """Where no copy is any good, a desk begins anew, with no store; what was there is in the copy aside."""
     for number in range(2):
+        # (whoever was erased a moment ago, and came again, is in no store that is empty)
+        (place.folder / "erased.csv").write_text(f"name,moment\nacme,{time.strftime('%Y-%m-%dT%H:%M:%SZ', time.gmtime(time.time() - 60))}\n")
         ended = place.run("hq-restore", "north", "--empty", "--aside", place.folder / f"aside{number}")
+        expect(not [it for it in place.steps() if "erase-again" in it], number, "something is erased in no store")
         expect(ended.returncode == 0 and not place.store().exists() and not place.marks(), number, "it ended with", ended)
-        expect(not [it for it in place.steps() if "migrate" in it], number, "a store was migrated")
 
 
 def test_several(place):
@@ -357,7 +385,8 @@ def test_worker(place):
     expect(ended.returncode == 0 and not [it for it in place.steps() if "relay" in it], "it ended with", ended)
     (place.folder / "relay.ini").write_text("[desk]\n")
     ended = place.restore(aside="third")
-    expect(ended.returncode == 1 and "has no line `desks = desks.csv`" in ended.stderr and not place.steps(), "of a worker with two desks", ended)
+    expect(ended.returncode == 1 and "has no line `desks = desks.csv`" in ended.stderr, "of a worker with two desks", ended)
+    expect(not [it for it in place.steps() if "desk-stop" in it], "something was stopped")
     (place.folder / "south.env").unlink()
     ended = place.restore(aside="third")
     expect(ended.returncode == 0 and any(" restored --copied " in it for it in place.steps()), "of a worker with one desk", ended)

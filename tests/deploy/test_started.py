@@ -111,8 +111,8 @@ def test_stays_stopped():
     for unit in ("hq-relay-intake.service", "hq-relay-deliver.service"):
         found = all_settings_of(DEPLOY / unit).get("AssertPathExists")
         expect(found == [stopped.replace("%i", "relay")], unit, "starts where", found)
-    # (a move that is not done has marks of its own)
-    both = [stopped, f"{stopped}.moving"]
+    # (a move that is not done has marks of its own, and so has a restore)
+    both = [stopped, f"{stopped}.moving", f"{stopped}.restoring"]
     for unit, wanted in (("hq-desk@.service", (both, None)), ("hq-desk-retain@.service", (None, both))):
         settings = all_settings_of(DEPLOY / unit)
         found = tuple(settings.get(it) for it in ("AssertPathExists", "ConditionPathExists"))
