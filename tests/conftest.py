@@ -8,8 +8,7 @@ import pytest
 sys.dont_write_bytecode = True
 CRATES = Path(__file__).resolve().parent.parent / "crates"
 # Each program that tests run, where it was built, and what it is.
-PROGRAMS = {"program": ("hq_main/out/hq_main", "the desk"),
-            "shelf-tests": ("hq_sql_tests/out/hq_sql_tests_tests", "the tests of crates/hq_sql_tests")}
+PROGRAMS = {"program": ("hq_main/out/hq_main", "the desk")}
 
 
 def pytest_addoption(parser):
@@ -28,11 +27,6 @@ def built(request, name):
 def program(request):
     """The desk."""
     return built(request, "--program")
-
-
-@pytest.fixture(scope="session")
-def shelf_tests(request):
-    return built(request, "--shelf-tests")
 
 
 @pytest.fixture

@@ -6,7 +6,8 @@
 // store, and READ_FAILS_FROM=N from that one on.
 // POWER_GOES=M has the power go with that end: of each file, what was written or cut since its last sync is gone; with an M
 // that is not 0 a part of these calls is kept, each by a bit drawn from M. SYNCS_LIE=1 has syncs answer well and keep nothing.
-// REFUSE_AT=N answers "no memory" at its N-th request for memory, and REFUSE_EACH=N at each N-th.
+// REFUSE_AT=N answers "no memory" at its N-th request for memory, and REFUSE_EACH=N at each N-th; with REFUSE_AFTER=M they
+// count from behind the M-th request on.
 // ACCEPT_FAILS_AT=N answers "too many open files" in place of the N-th connection accepted, and CLOCK_AT=S has the clock tell
 // S seconds since 1970, at all times; how long something takes is not told by that clock.
 // SYNC_TAKES=MS has each sync of a file take so many milliseconds more.
@@ -29,7 +30,8 @@
 #include <time.h>
 #include <unistd.h>
 
-static long calls, syncs, requests, accepted, stop_at, fail_at, fail_from, refuse_at, refuse_each, accept_fails_at;
+static long calls, syncs, requests, accepted, stop_at, fail_at, fail_from, refuse_at, refuse_each, refuse_after;
+static long accept_fails_at;
 static long file_reads, read_fails_at, read_fails_from, reads, writes, read_most, write_most, interrupts, input_fails_at, room;
 static int half, has_power_cut, syncs_lie, flickers, has_room, has_error, of_sockets, read_turns, write_turns;
 static unsigned long power;
@@ -47,6 +49,7 @@ __attribute__((constructor)) static void begin(void) {
   read_fails_from = number("READ_FAILS_FROM");
   refuse_at = number("REFUSE_AT");
   refuse_each = number("REFUSE_EACH");
+  refuse_after = number("REFUSE_AFTER");
   accept_fails_at = number("ACCEPT_FAILS_AT");
   half = getenv("STOP_HALF") != NULL;
   has_power_cut = getenv("POWER_GOES") != NULL;
@@ -286,7 +289,8 @@ ssize_t send(int file, const void *bytes, size_t size, int flags) {
 
 static int is_refused(void) {
   requests++;
-  return requests == refuse_at || (refuse_each && requests % refuse_each == 0);
+  long at = requests - refuse_after;
+  return at > 0 && (at == refuse_at || (refuse_each && at % refuse_each == 0));
 }
 
 void *malloc(size_t size) {
