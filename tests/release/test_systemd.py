@@ -229,7 +229,7 @@ def test_put_back(machine):
     """The line of the page puts a store back. Killed at each of its steps, it goes on behind a boot, which has started nothing by half."""
     key = machine.run("sed -n 's/^acme,\\([^,]*\\),.*/\\1/p' /etc/hq/north.csv").strip()
     machine.run("/usr/libexec/hq-desk/desk-backup /root/before north")
-    line, = blocks(PROCEDURES, "Restore")
+    line = blocks(PROCEDURES, "Restore")[0].strip()
     for number, (name, when) in enumerate(((None, None), ("runuser", "hq migrate"), ("systemctl", "start hq-desk@north"), ("runuser", "restored"))):
         machine.run(f"curl -sSf -H 'X-Desk-Key: {key}' -d '{{\"class\":\"sender\",\"pattern\":\"new.example\",\"action\":\"HOLD\"}}' "
                     "http://127.0.0.1:825/v1/line-put")
@@ -244,7 +244,7 @@ def test_put_back(machine):
             told = machine.run(line, BACKUP="/root/before", ASIDE=f"/root/aside{number}", longest=120)
         machine.until_active(*OURS)
         found = machine.run(f"curl -sSf -H 'X-Desk-Key: {key}' http://127.0.0.1:825/v1/lines; ls /var/lib/hq-desk-stopped")
-        expect("new.example" not in found and found.endswith("}\n"), when, "there is", found, told)
+        expect("new.example" not in found and found.strip().endswith("}"), when, "there is", found, told)
 
 
 def test_killed_copy(machine):
