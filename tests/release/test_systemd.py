@@ -230,12 +230,14 @@ def test_put_back(machine):
     key = machine.run("sed -n 's/^acme,\\([^,]*\\),.*/\\1/p' /etc/hq/north.csv").strip()
     machine.run("/usr/libexec/hq-desk/desk-backup /root/before north")
     line = blocks(PROCEDURES, "Restore")[0].strip()
-    for number, (name, when) in enumerate(((None, None), ("runuser", "hq migrate"), ("systemctl", "start hq-desk@north"), ("runuser", "restored"))):
+    for number, (name, when) in enumerate(((None, None), ("runuser", "-u hqdesk -- hq migrate"), ("systemctl", "start hq-desk@north"),
+                                          ("runuser", "-u hqrelay -- hq-relay /etc/hq/relay.ini restored"))):
         machine.run(f"curl -sSf -H 'X-Desk-Key: {key}' -d '{{\"class\":\"sender\",\"pattern\":\"new.example\",\"action\":\"HOLD\"}}' "
                     "http://127.0.0.1:825/v1/line-put")
         if name:
             stands_in(machine, name, when, "pkill -9 -f bin/hq-restore; sleep 1; exit 9")
             machine.run(f"{line} || test $? = 137", BACKUP="/root/before", ASIDE=f"/root/aside{number}", longest=120)
+            expect(not (machine.folder / "usr/local/sbin" / name).exists(), when, "is no step")
             machine.boot_again()
             expect(machine.active("hq-relay-intake", "hq-relay-deliver") == ["inactive"] * 2, when, "was cut, and the worker runs")
             expect("hq-restore" in machine.run("/usr/libexec/hq-desk/desk-start relay 2>&1", status=1), when, "the worker was started")
