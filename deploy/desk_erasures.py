@@ -7,7 +7,7 @@ from pathlib import Path
 from typing import Dict, List, NamedTuple, Optional, Tuple
 
 import desk_programs
-from desk_apart import MOVED, MOVES, under_way
+from desk_apart import MOVED, MOVES, restoring, under_way
 from desk_files import DESKS, MOMENT, Desk, Erased, Folder, Refused, erased_in, now, table_of
 from desk_programs import NAME
 
@@ -58,6 +58,8 @@ def compare(scripts: Path, folder: Folder, stores: Path) -> List[Desk]:
     found: List[Misplaced] = []
     for desk in desk_programs.stores_in(stores, folder.desks)[0]:
         with desk_programs.kept_for_later(faults):
+            if why := restoring(desk):
+                raise Refused(why)
             found += misplaced(scripts, folder, stores, desk)
     desk_programs.told_at_last(faults)
     if found:

@@ -1,4 +1,4 @@
-"""What is written down of restores, for hq-restore: which desks' stores are being put back, from where, and how far each is.
+"""The record of restores, for hq-restore: which desks' stores are being put back, from which copies, and how far each is.
 
 One file has it, which changes in one step. Beside it each desk has a mark, by which scripts go without reading that file: one keeps
 everybody from a store that is being put back, and the other the worker from a start until its book fits the store.
@@ -52,13 +52,13 @@ class Restore(NamedTuple):
 
 
 class Restores:
-    """All restores that are under way, by desk; and whether the worker is started behind them."""
+    """All restores that are under way, by desk; and whether the worker starts after them."""
 
     def __init__(self) -> None:
-        told = json.loads(RECORD.read_text(encoding="utf-8")) if RECORD.exists() else {"desks": {}, "has_worker": False}
+        record = json.loads(RECORD.read_text(encoding="utf-8")) if RECORD.exists() else {"desks": {}, "has_worker": False}
         try:
-            self.desks: Dict[str, Restore] = {desk: Restore(**it) for desk, it in told["desks"].items()}
-            self.has_worker: bool = told["has_worker"]
+            self.desks: Dict[str, Restore] = {desk: Restore(**it) for desk, it in record["desks"].items()}
+            self.has_worker: bool = record["has_worker"]
         except (TypeError, KeyError):
             raise Refused(f"{RECORD} is none of this release: end that restore by the release that began it") from None
 

@@ -77,6 +77,8 @@ def test_a_desk_that_is_put_back(place):
         for words in (("move", "dale", "--desk", "south"), *([("drop", "dale")] if name == "north" else [])):
             ended = place.run(*words)
             expect(ended.returncode == 1 and f"the store of {name} is being put back" in ended.stderr, name, mark, words, "ended with", ended)
+        ended = place.run("compare")
+        expect(ended.returncode == (mark == "restoring"), name, mark, "compare ended with", ended)
         (place.place / f"stopped/{name}.{mark}").unlink()
     expect(place.has("north") == place.before, "dale has", place.has("north"))
     # (a half move goes on once the store is back, since the restore waits for that before its desk starts)
