@@ -1,4 +1,6 @@
 """What all tests share: the programs that were built, and a line at the end that says how many passed."""
+import contextlib
+import signal
 import sys
 import tempfile
 from pathlib import Path
@@ -6,6 +8,9 @@ from pathlib import Path
 import pytest
 
 sys.dont_write_bytecode = True
+# A shell that starts tests in the background has them ignore Ctrl-C, and so all that they start. (Only a main thread may change that.)
+with contextlib.suppress(ValueError):
+    signal.signal(signal.SIGINT, signal.default_int_handler)
 CRATES = Path(__file__).resolve().parent.parent / "crates"
 # Each program that tests run, where it was built, and what it is.
 PROGRAMS = {"program": ("hq_main/out/hq_main", "the desk")}

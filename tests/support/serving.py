@@ -8,6 +8,7 @@ import select
 import socket
 import subprocess
 import time
+from typing import Set
 
 ACME, BIRCH, RELAY = "acmekey000000001", "birchkey00000001", "relaykey00000001"
 KEYS = {"acme": ACME, "birch": BIRCH, "cedar": "cedarkey00000001"}
@@ -39,13 +40,26 @@ def until(holds, told, longest=LONGEST):
         time.sleep(0.005)
 
 
+# Files of tests that run side by side have ports of their own, and none is given twice in a while:
+# nobody listens there until its server has started.
+WORKER = int(os.environ.get("PYTEST_XDIST_WORKER", "gw0")[2:])
+WORKERS = int(os.environ.get("PYTEST_XDIST_WORKER_COUNT", "1"))
+GIVEN: Set[int] = set()
+MOST_GIVEN = 1_000
+
+
 def free_address():
     """An address of loopback on which nobody listens. Its port is none that the system hands out
     by itself, so that it is free again whenever its server is stopped."""
+    if len(GIVEN) >= MOST_GIVEN:
+        GIVEN.clear()
     while True:
-        address = "127.0.0.1", random.SystemRandom().randrange(10_240, 32_768)
-        with contextlib.suppress(OSError), socket.create_server(address):
-            return address
+        port = random.SystemRandom().randrange(10_240, 32_700) // WORKERS * WORKERS + WORKER
+        if port in GIVEN:
+            continue
+        with contextlib.suppress(OSError), socket.create_server(("127.0.0.1", port)):
+            GIVEN.add(port)
+            return "127.0.0.1", port
 
 
 def connected(address):
