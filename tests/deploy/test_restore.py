@@ -23,7 +23,6 @@ echo "{name} $*" >>{folder}/steps
 [ ! -e {folder}/waits ] || case "{name} $*" in *"$(cat {folder}/waits)"*) : >{folder}/there; sleep 30 ;; esac
 [ ! -e {folder}/fails ] || case "{name} $*" in *"$(cat {folder}/fails)"*) exit 1 ;; esac
 """
-# (a store begins so)
 STORE = "SQLite format 3\0"
 STEPS = ("desk-stop", "desk-backup --any", "tar -x -p", "erase-again", "migrate", "desk-start north", "restored", "desk-start relay")
 OTHER = HEADER + "acme,acmekey000000001,1000,500000000,1000,1000,14400\n"
@@ -205,6 +204,15 @@ def test_interrupted(place):
     expect(going.returncode in (1, -signal.SIGINT) and "goes on" not in told and not place.marks(), "it ended with", going.returncode, told, place.marks())
     expect(all(map(listens, place.addresses.values())) and place.store().read_text() == f"{STORE} of now", "some do not run")
     expect("start hq-relay-intake.service hq-relay-deliver.service" in (place.folder / "called").read_text().splitlines()[-1], "the worker does not run")
+
+
+def test_nobody_reads(place):
+    """A terminal that is closed meanwhile keeps no desk from its start."""
+    (place.folder / "fails").write_text("desk-backup --any")
+    given = words(place.folder, "hq-restore", "north", "--backup", place.backup, "--aside", place.folder / "aside")
+    with open("/dev/full", "w") as full:
+        ended = subprocess.run(stdout=full, timeout=LONGEST, **given)
+    expect(ended.returncode and listens(place.addresses["north"]) and not place.marks(), "north is down:", place.marks())
 
 
 def test_killed_as_it_gives_up(place):
