@@ -166,7 +166,8 @@ module _ {S : Type 0} (g : Ghosts S) (d : Directory) (before : Trees → Type 0)
 -- ---- as the code has it
 
 -- a shelf that is not in doubt stands
-stands_sure : (standing : Standing) (s : State) → is_doubtful standing ≡ false → Stands standing s
+pub stands_sure : (standing : Standing) (s : State) → is_doubtful standing ≡ false →
+    Stands standing s
 stands_sure Open s sure = tt
 stands_sure Gone s sure = tt
 stands_sure InDoubt s sure = absurd (let no : true ≡ false = sure in cc)

@@ -4,7 +4,9 @@
 
 mod histories;
 pub mod laws;
+mod serving;
 mod sessions;
 
 pub use histories::{Served, Visit, history};
+pub use serving::{Server, session_in_rounds};
 pub use sessions::{Stopped, session};

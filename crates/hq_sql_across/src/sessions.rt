@@ -28,7 +28,7 @@ pub struct Stopped<'d, S: Alter> {
 
 /// Stops the store of a connection, with the loss of what was not synced or of a part of it, and
 /// opens it again. 91 tells that it could not be read.
-fn reopened<S: Alter + Reopen + Drop>(
+pub(crate) fn reopened<S: Alter + Reopen + Drop>(
     alloc: Global,
     conn: Connection<S>,
 ) -> Result<Connection<S>, Fault>
