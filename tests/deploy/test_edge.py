@@ -264,11 +264,12 @@ def test_proof_of_a_name(proxy):
     place.mkdir(parents=True)
     (place / "token-1_x").write_text("token-1_x.of-the-account")
     (proxy.folder / "www/index.html").write_text("of Debian")
+    (place / "link").symlink_to(proxy.folder / "www/index.html")
     for it in (place, proxy.folder / "www"):
         it.chmod(0o755)
     status, fields, body = without_tls(proxy, "/.well-known/acme-challenge/token-1_x")
     expect((status, body) == (200, "token-1_x.of-the-account") and "content-type: text/plain" in fields, "the file is answered by", status, fields)
-    for path, wanted in (("", 403), ("none", 404), ("../../index.html", 308), ("%2e%2e/%2e%2e/index.html", 308), ("token-1_x/", 404)):
+    for path, wanted in (("", 403), ("link", 403), ("none", 404), ("../../index.html", 308), ("%2e%2e/%2e%2e/index.html", 308), ("token-1_x/", 404)):
         status, _, body = without_tls(proxy, f"/.well-known/acme-challenge/{path}")
         expect(status == wanted and "of Debian" not in body, path, "is answered by", status, body)
 
