@@ -83,6 +83,7 @@ def move(scripts: Path, folder: Folder, given: argparse.Namespace, its_desk: Des
     is_new = going is None
     going = going or Move(given.name, its_desk.name, target.name, IS_COPIED if given.same_firm else IS_ASKED, OF_FILES if given.files else OF_DESKS)
     if is_new:
+        desk_programs.refuse_other_key(target)
         refuse(folder, given, its_desk, target)
     carry(folder, going)
     if is_new:

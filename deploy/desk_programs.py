@@ -248,6 +248,14 @@ def refuse_customer(folder: Folder, name: str) -> None:
                       f"there; then take its row out of {path}, and type `desk-maps` with all desks")
 
 
+def refuse_other_key(desk: Desk) -> None:
+    """Refuses a desk for a customer where the worker, which has one key for all desks, has another one: its mail would wait, and bounce."""
+    of_worker, of_desk = (desk.folder / f"{it}.key" for it in ("relay", desk.name))
+    if of_worker.exists() and of_desk.exists() and of_worker.read_text().strip() != of_desk.read_text().strip():
+        raise Refused(f"{of_desk} has another key than {of_worker}, by which the worker asks each desk: type `cat {of_worker} >{of_desk}`, and "
+                      f"`systemctl try-restart hq-desk@{desk.name}`")
+
+
 def refuse_rows_beyond(folder: Folder) -> None:
     """Refuses to take somebody for dropped who was put into the worker's table by hand, and whose desk is beyond this machine."""
     # (who was at a desk that was here before is dropped, wherever that desk is now)

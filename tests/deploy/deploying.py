@@ -262,7 +262,8 @@ class Proxy:
             "/run/nginx.pid": f"{folder}/nginx.pid", "/var/log/nginx": folder, "/var/log/hq-nginx/error.log": f"{folder}/alerts.log",
             "  include /etc/nginx/conf.d/*.conf;\n": f"{temporary}  include {folder}/hq-desk.conf;\n"})
         self.put("nginx.conf", "hq-desk.conf", {
-            "/etc/hq": folder, "/var/log/hq-nginx": folder, "/usr/share/hq-desk/web": f"{folder}/web"})
+            "/etc/hq": folder, "/var/log/hq-nginx": folder, "/usr/share/hq-desk/web": f"{folder}/web",
+            "/var/www/html": f"{folder}/www"})
         self.put("nginx-workers.conf", "nginx-workers.conf", {
             # (its unit has another user)
             "worker_processes 1;\n": f"{as_user}worker_processes 1;\n", "127.0.0.1:824": self.inner, "/etc/hq": folder,

@@ -22,7 +22,7 @@ STEPS = "mktemp", "install", "rm", "ln", "mv", "cp", "sync", "nginx", "systemctl
 def hook(folder):
     """The program that the lines write, beside stand-ins for nginx and systemctl. Any command may be the last one."""
     needs.command("openssl")
-    lines = re.search(r"(?ms)^## A new certificate\n.*?^```\n(.*?)^```$", PAGE.read_text())[1]
+    lines = re.search(r"(?ms)^## A new certificate\n.*?^```\n(cat .*?)^```$", PAGE.read_text())[1]
     for name in ("bin", "etc", "hooks", "steps", "live"):
         (folder / name).mkdir()
     for name in ("nginx", "systemctl"):
@@ -67,6 +67,13 @@ def there(folder):
     """Which pair is there; None where the two do not fit, or one is missing."""
     texts = [(folder / "etc" / it).read_text() if (folder / "etc" / it).exists() else "" for it in PAIR.values()]
     return next((name for name in ("first", "second") if texts == [(folder / f"{name}.{it}").read_text() for it in PAIR]), None)
+
+
+def test_way_of_certbot():
+    """The line for certbot has the folder that nginx serves at the port without TLS."""
+    line = re.search(r"(?m)^certbot certonly --webroot --webroot-path (\S+) ", PAGE.read_text())
+    served = re.search(r"location \^~ /\.well-known/acme-challenge/ \{\n    root (\S+);", (DEPLOY / "nginx.conf").read_text())
+    expect(line and served and line[1] == served[1], "certbot writes to", line, "and nginx serves", served)
 
 
 def test_renewed(hook):

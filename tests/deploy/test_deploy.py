@@ -17,7 +17,7 @@ from pathlib import Path
 import needs
 from check import bounded
 from paths import at_a_path, lines_of_unit
-from deploying import DEPLOY, OTHERS, ROWS, Desk, Proxy, all_settings_of, done
+from deploying import DEPLOY, OTHERS, ROWS, Desk, Proxy, all_settings_of, done, settings_of
 from serving import ACME, BIRCH, HEADER, LONGEST, RELAY, Wrong, answered, expect, named, submission, until
 
 USAGE = "GET", "/v1/usage"
@@ -70,6 +70,15 @@ def test_units(folder, program):
     unit = all_settings_of(DEPLOY / "hq-desk@.service")
     expect(unit["Environment"] == ["KEYS="] and unit["ExecStart"][0].endswith(" $KEYS"), "named keys are asked for without any")
     expect(float(unit["MemoryMax"][0].rstrip("G")) >= 2.5, "a store of a million messages cannot be opened in", unit["MemoryMax"])
+
+
+def test_journal():
+    """What a timer begins each minute or more often leaves no line in the journal but of faults, so that it pushes out nobody's."""
+    often = {it.stem for it in DEPLOY.glob("*.timer") if "OnUnitInactiveSec" in settings_of(it)}
+    expect(len(often) == 3, "these begin so often:", often)
+    for it in often:
+        unit = settings_of(DEPLOY / f"{it}.service")
+        expect((unit.get("SyslogLevel"), unit.get("LogLevelMax")) == ("warning", "notice"), it, "writes that it began and ended")
 
 
 def test_refused_start():

@@ -250,6 +250,30 @@ def test_ways_in(proxy):
         expect("evil" not in text and (status == 308 or json.loads(body)["proxy"] == status), line, "without TLS gets", text)
 
 
+def without_tls(proxy, path):
+    """The status, the fields and the body that a path gets at the port without TLS."""
+    with socket.create_connection(proxy.plain.split(":"), LONGEST) as client:
+        client.sendall(head(f"GET {path} HTTP/1.1", "Connection: close") + b"\r\n")
+        fields, _, body = b"".join(iter(lambda: client.recv(65536), b"")).decode().partition("\r\n\r\n")
+    return int(fields[9:12]), fields.lower(), body
+
+
+def test_proof_of_a_name(proxy):
+    """What certbot puts into its folder is shown without TLS, and nothing else beside it: so the certificate is renewed while nginx runs."""
+    place = proxy.folder / "www/.well-known/acme-challenge"
+    place.mkdir(parents=True)
+    (place / "token-1_x").write_text("token-1_x.of-the-account")
+    (proxy.folder / "www/index.html").write_text("of Debian")
+    (place / "link").symlink_to(proxy.folder / "www/index.html")
+    for it in (place, proxy.folder / "www"):
+        it.chmod(0o755)
+    status, fields, body = without_tls(proxy, "/.well-known/acme-challenge/token-1_x")
+    expect((status, body) == (200, "token-1_x.of-the-account") and "content-type: text/plain" in fields, "the file is answered by", status, fields)
+    for path, wanted in (("", 403), ("link", 403), ("none", 404), ("../../index.html", 308), ("%2e%2e/%2e%2e/index.html", 308), ("token-1_x/", 404)):
+        status, _, body = without_tls(proxy, f"/.well-known/acme-challenge/{path}")
+        expect(status == wanted and "of Debian" not in body, path, "is answered by", status, body)
+
+
 def test_networks(proxy):
     """Strangers of one network of IPv6 share its limit, however many of its addresses they take; those of others do not."""
     proxy.with_text("server_tokens off;\n  access_log", "server_tokens off;\n  set_real_ip_from 127.0.0.1;\n"

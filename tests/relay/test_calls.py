@@ -2,12 +2,15 @@
 import json
 import socket
 import threading
+from types import SimpleNamespace
 
 import pytest
 from hq_relay.storage.book import Book, Report
 from hq_relay.desk.client import Away, Desk, Refused
 from hq_relay.outcome import Outcome, Result
+from hq_relay.delivery.handover import Handover
 from hq_relay.delivery.outcome_reporter import TOGETHER, OutcomeReporter
+from hq_relay.postfix.delivering_instance import NotTaken
 from serving import expect
 from sinks import whole
 
@@ -146,3 +149,19 @@ def test_failures_without_room(folder, logged):
     told = [it["id"] for it in answering.asked]
     expect(told == ["0000000009", "0000000000", "0000000001"] and len(book.unreported("acme")) == 3, "told was", told)
     expect(logged == ["no room for a notice"] * 3, "it tells", logged)
+
+
+@pytest.mark.parametrize("answer, wanted", [
+    ((554, b"5.1.2 <outcome@desk.invalid>: Recipient address rejected: no such domain"), []),
+    ((554, b"5.4.0 Error: too many hops"), []),
+    ((554, b"5.7.1 <ann@a.example>: Relay access denied"), ["refused by the delivering instance"]),
+    ((451, b"4.7.1 Service unavailable - try again later"), ["refused by the delivering instance"])])
+def test_refused_for_good(answer, wanted, logged):
+    """A mail that the delivering instance refuses for good is no error: a customer can write any number of these. What its own policy
+    refuses is one."""
+    def send(*_):
+        raise NotTaken(*answer)
+    told = []
+    handover = SimpleNamespace(send=send, refuse=lambda _, *words: told.append(words))
+    expect(Handover.send_or_refuse(handover, SimpleNamespace(customer="acme", id="1"), None, None) is None and len(told) == 1, "told is", told)
+    expect(logged == wanted and told[0][0] == (Result.DEFERRED if wanted else Result.FAILED), "logged is", logged, told)

@@ -1,5 +1,5 @@
-"""The unit of the delivering instance, which from Debian 13 on somebody has to enable: `install` does, with stand-ins for systemd and
-Postfix."""
+"""The unit of the delivering instance, by which `install` has it run, with stand-ins for systemd and Postfix. From Debian 13 on somebody
+has to enable it."""
 from pathlib import Path
 
 import pytest
@@ -10,7 +10,7 @@ from serving import expect
 
 DESK = Path("/etc/postfix-desk")
 # What `systemctl cat` shows of the unit on Debian 12 and on 13.
-OF_12, OF_13 = "ExecStart=/usr/sbin/postmulti -i %i -p start", "ExecStart=/usr/sbin/postfix -c /etc/postfix-%I start"
+OF_12, OF_13 = "ExecStart=/usr/sbin/postmulti -i %i -p start\n", "ExecStart=/usr/sbin/postfix -c /etc/postfix-%I start"
 # What is enabled, active or running is a file of that name; what is changed is written down.
 SYSTEMCTL = """\
 #!/bin/sh
@@ -19,6 +19,7 @@ case "$1 $2" in
   "cat postfix@.service") cat shown ;;
   "--quiet is-"*) [ -e "${{2#is-}}" ] ;;
   enable*) touch enabled; echo "$@" >>called ;;
+  daemon-reload*) echo "$@" >>called ;;
   restart*) touch active running; echo "$@" >>called ;;
 esac
 """
@@ -32,6 +33,8 @@ case $3 in
 esac
 echo "$@" >>called
 """
+# (it knows the instance once that is made)
+POSTCONF = "#!/bin/sh\nexec cat {folder}/name\n"
 ESCAPE = "#!/bin/sh\nprintf 'postfix@%s.service\\n' \"$(echo \"$2\" | sed 's/-/\\\\x2d/g')\"\n"
 
 
@@ -39,7 +42,7 @@ ESCAPE = "#!/bin/sh\nprintf 'postfix@%s.service\\n' \"$(echo \"$2\" | sed 's/-/\
 def machine(folder, monkeypatch):
     """A machine with systemd, on which the instance runs outside of its unit."""
     (folder / "bin").mkdir()
-    for name, text in (("systemctl", SYSTEMCTL), ("postfix", POSTFIX), ("systemd-escape", ESCAPE)):
+    for name, text in (("systemctl", SYSTEMCTL), ("postfix", POSTFIX), ("postconf", POSTCONF), ("systemd-escape", ESCAPE)):
         (folder / "bin" / name).write_text(text.format(folder=folder))
         (folder / "bin" / name).chmod(0o755)
     monkeypatch.setenv("PATH", f"{folder}/bin:/usr/bin:/bin")
@@ -75,16 +78,27 @@ def test_enabled_again(machine, gone):
     expect(called[-1] == "restart postfix@desk.service" and not plan.lacks_unit() and (machine / "running").exists(), "called is", called)
 
 
-def test_no_unit(machine):
-    """On Debian 12, where Postfix's own service starts all instances, and without systemd, no unit is called."""
+def test_generated(machine):
+    """On Debian 12, where Postfix's own service starts all instances, it goes on by the unit that this one starts, and none is enabled:
+    else an upgrade of Postfix would leave it as it is."""
     (machine / "shown").write_text(OF_12)
+    (machine / "name").write_text("postfix-desk\n")
     plan, called = runs(machine)
-    expect((plan.unit, called, plan.lacks_unit(), instance_unit.hint(DESK)) == ("", [], False, ""), "called is", called)
+    expect(called == ["daemon-reload", f"-c {DESK} stop", "restart postfix@postfix-desk.service"], "called is", called)
+    expect(not plan.lacks_unit() and runs(machine)[1] == [] and instance_unit.hint(DESK) == "", "it is not in place")
     (machine / "running").unlink()
-    expect(runs(machine)[1] == [f"-c {DESK} start"], "it is not started")
+    expect(runs(machine)[1][-1] == "restart postfix@postfix-desk.service", "it is not started")
+
+
+def test_no_unit(machine):
+    """Before the instance is made, and without systemd, no unit is called."""
+    (machine / "shown").write_text(OF_12)
+    expect((instance_unit.unit_of(DESK), instance_unit.hint(DESK)) == ("", ""), "there is a unit")
     (machine / "shown").write_text(OF_13)
     instance_unit.SYSTEMD = machine / "none"
     expect(runs(machine)[1] == [] and instance_unit.unit_of(DESK) == "", "a unit is called without systemd")
+    (machine / "running").unlink()
+    expect(runs(machine)[1] == [f"-c {DESK} start"], "it is not started")
 
 
 def test_names(machine):

@@ -9,6 +9,9 @@ from serving import expect
 WAY = "content_filter=desk:[127.0.0.1]:823"
 LOGGED_IN = "smtpd_relay_restrictions=permit_sasl_authenticated,reject"
 SMTPD = "n - n - - smtpd"
+ASKS = "check_policy_service,inet:127.0.0.1:820"
+ASKING = (f"-o smtpd_recipient_restrictions={ASKS} -o smtpd_end_of_data_restrictions={ASKS} -o smtpd_policy_service_default_action=DUNNO "
+          "-o smtpd_policy_service_try_limit=1 -o smtpd_policy_service_timeout=10s")
 RIGHT = f"587 inet {SMTPD} -o {WAY}"
 # The services of a master.cf, and of which of them it is told that they lead elsewhere, or trust their own machine.
 CASES = {
@@ -33,7 +36,8 @@ def test_listeners(folder, services, leading, trusting):
     (folder / "main.cf").write_text("compatibility_level = 3.6\nmynetworks = 127.0.0.0/8 [::1]/128\n"
                                     "smtpd_relay_restrictions = permit_mynetworks, permit_sasl_authenticated, reject\n")
     (folder / "master.cf").write_text("".join(f"{it}\n" for it in services))
-    settings = SimpleNamespace(front=folder, listen=("127.0.0.1", 823), customers_at=None, domains={"a.example": "acme"})
+    settings = SimpleNamespace(front=folder, listen=("127.0.0.1", 823), customers_at=None, policy=None,
+                               domains={"a.example": "acme"})
     found = [*listeners.hints(settings)]
     for what, names in (("does not listen", leading), ("from this machine itself", trusting)):
         expect([it.split(" in ")[0] for it in found if what in it] == names, what, "is told of", found)
@@ -47,8 +51,27 @@ def test_none(folder):
     needs.command("postconf")
     (folder / "main.cf").write_text("compatibility_level = 3.6\n")
     (folder / "master.cf").write_text(f"smtp inet {SMTPD}\n")
-    settings = SimpleNamespace(front=folder, listen=("127.0.0.1", 823), customers_at=None, domains={})
+    settings = SimpleNamespace(front=folder, listen=("127.0.0.1", 823), customers_at=None, policy=None, domains={})
     found = [*listeners.hints(settings)]
     expect(found == [f"add to your listener of customers in master.cf: -o {WAY}"], "told is", found)
+    settings.policy = ("127.0.0.1", 820)
+    found = [*listeners.hints(settings)]
+    expect(found == [f"add to your listener of customers in master.cf: -o {WAY} {ASKING}"], "told is", found)
     settings.customers_at = ("127.0.0.1", 819)
     expect([*listeners.hints(settings)] == [], "told is", [*listeners.hints(settings)])
+
+
+@pytest.mark.parametrize("main, options, is_told", [
+    ("", "", True), ("", ASKING, False), ("", f"-o smtpd_recipient_restrictions={ASKS}", True),
+    ("", ASKING.replace("=check", "=reject_unknown_sender_domain,check"), False),
+    (f"smtpd_recipient_restrictions = {ASKS}\nsmtpd_end_of_data_restrictions = {ASKS}\n", "", False)])
+def test_asked(folder, main, options, is_told):
+    """A listener that hands mail to the worker, and does not ask it before as the settings want, is named, with what it lacks."""
+    needs.command("postconf")
+    (folder / "main.cf").write_text(f"compatibility_level = 3.6\n{main}")
+    (folder / "master.cf").write_text(f"{RIGHT} {options}\n")
+    settings = SimpleNamespace(front=folder, listen=("127.0.0.1", 823), customers_at=None, policy=("127.0.0.1", 820), domains={})
+    found = [*listeners.hints(settings)]
+    expect([it.startswith("587/inet ") and it.endswith(ASKING) for it in found] == [True] * is_told, "told is", found)
+    settings.policy = None
+    expect([*listeners.hints(settings)] == [], "without `policy` it is told", found)

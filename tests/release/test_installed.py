@@ -18,7 +18,7 @@ from serving import expect, until
 
 DIVERTED = "dpkg-divert --truename /etc/nginx/nginx.conf"
 PRODUCTION, PROCEDURES, RELAY, README = "docs/PRODUCTION.md", "docs/PROCEDURES.md", "docs/RELAY.md", "README.md"
-NAMES = {"TLS": "/root/tls", "NAME": "desk.example"}
+NAMES = {"TLS": "/root/tls", "NAME": "desk.example", "RELAY": "mx.firm.example"}
 OURS = ("/etc/hq", "/var/lib/hqdesk", "/var/lib/hqrelay", "/var/log/hqdesk", "/usr/share/hq-desk", "/usr/libexec/hq-desk")
 HERE = Path(__file__).resolve().parent
 BESIDE = "fail2ban python3-systemd logrotate prometheus-node-exporter"
@@ -145,11 +145,12 @@ def test_the_nginx_conf_of_debian(root):
     expect("has no line 'user hqproxy;'" in told and "PRODUCTION.md.gz" in told, "it tells", told)
 
 
-
 def test_first_mail(root):
     """The lines of RELAY's "Units", and a mail that goes from a customer to a host of its recipient."""
     for it in blocks(RELAY, "Units"):
-        root.run(it)
+        root.run(it, **NAMES)
+    named = root.run("postconf -c /etc/postfix-desk -h myhostname; grep -h '^HOST=' /etc/hq/north.env").split()
+    expect(named == [NAMES["RELAY"], f"HOST={NAMES['RELAY']}"], "the relay calls itself", named)
     root.run("sed -i 's/^listen = .*/&\\ncustomers = 127.0.0.1:10025/; "
              "s/^\\[delivery\\]$/[delivery]\\npause = 1/' /etc/hq/relay.ini")
     root.run("hq-relay /etc/hq/relay.ini install")

@@ -81,6 +81,21 @@ def test_counts(machine):
     until(lambda: 'desk_messages{customer="acme"}' in machine.run("curl -sS http://127.0.0.1:9100/metrics || true"), "no counts are shown")
 
 
+def test_postfix_again(machine):
+    """What starts Postfix again, as an upgrade of it does, reaches both instances; of one that has ended it is told, whatever its unit says."""
+    def masters():
+        return {*machine.run("cat /var/spool/postfix/pid/master.pid /var/spool/postfix-desk/pid/master.pid").split()}
+
+    before = masters()
+    machine.run("systemctl restart postfix; sleep 1")
+    expect(len(before) == 2 and len(masters() - before) == 2, "of", before, "go on", masters() & before)
+    for stop, is_up in (("postfix -c /etc/postfix stop", 0), ("systemctl restart postfix", 1)):
+        machine.run(f"{stop} && sleep 1; systemctl start hq-desk-metrics")
+        told = machine.run("cat /var/lib/prometheus/node-exporter/hq-desk-of.machine.prom")
+        for folder, wanted in (("/etc/postfix", is_up), ("/etc/postfix-desk", 1)):
+            expect(f'desk_postfix_up{{folder="{folder}"}} {wanted}\n' in told, "behind", stop, "it tells", told)
+
+
 def test_refused_start(machine):
     """A start that its files refuse fails at once, says why each two seconds, and comes up once they are good."""
     machine.run("cp -p /etc/hq/north.csv good.csv; echo 'bad row' >>/etc/hq/north.csv")

@@ -321,8 +321,10 @@ class Handover:
         except NotTaken as error:
             if error.is_of_all:
                 raise
-            log.error("refused by the delivering instance", customer=attempt.customer,
-                      id=attempt.id, why=error)
+            # (a customer can have any number of its mails refused for good, as by an address)
+            told = log.warning if error.result is Result.FAILED else log.error
+            told("refused by the delivering instance", customer=attempt.customer, id=attempt.id,
+                 why=error)
             self.refuse(attempt, error.result, error.status, clean(error))
             return None
 

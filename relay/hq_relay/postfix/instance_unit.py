@@ -1,8 +1,9 @@
-"""The unit by which the delivering instance starts with the machine, where it needs one.
+"""The unit by which the delivering instance starts with the machine, and with Postfix.
 
-On Debian 12 a generator of Postfix has postfix.service start all instances. From Debian 13 on that
-one starts the first instance alone: each other is postfix@NAME.service, of the folder
-/etc/postfix-NAME, which somebody has to enable.
+On Debian 12 it is postfix@NAME.service, of the name of the instance, which a generator has
+postfix.service start. From Debian 13 on that one starts the first instance alone: each other is
+postfix@NAME.service, of the folder /etc/postfix-NAME, which somebody has to enable. What runs
+outside of its unit, as in the session of an administrator, is not reached by an upgrade of Postfix.
 """
 import subprocess
 from pathlib import Path
@@ -12,31 +13,38 @@ from hq_relay.postfix.configuration import NotInstalled, run
 # The folder that is there where systemd runs.
 SYSTEMD = Path("/run/systemd/system")
 TEMPLATE = "postfix@.service"
-# How this unit of Debian 13 names the folder of its instance, and how that begins.
-FOLDER, BEGINS = "/etc/postfix-%I", "/etc/postfix-"
+# How the unit of Debian 13 names the folder of its instance, and how that begins; and how that of
+# Debian 12 names its instance.
+FOLDER, BEGINS, BY_NAME = "/etc/postfix-%I", "/etc/postfix-", "postmulti -i %i "
 
 
-def is_by_unit() -> bool:
-    """Whether each instance beside the first one is to have its own unit."""
-    if not SYSTEMD.is_dir():
-        return False
+def told(*words: str | Path) -> str:
+    """What a program prints; nothing if it fails."""
     try:
-        return FOLDER in run("systemctl", "cat", TEMPLATE).stdout
+        return run(*words).stdout.strip()
     except NotInstalled:
-        return False
+        return ""
+
+
+def template() -> str:
+    """The unit of which there is one for each instance; nothing without systemd."""
+    return told("systemctl", "cat", TEMPLATE) if SYSTEMD.is_dir() else ""
 
 
 def unit_of(folder: Path) -> str:
-    """The unit of an instance; nothing where it needs none, or where none is for such a folder."""
+    """The unit of an instance; nothing if none is for such a folder, or it is not made yet."""
+    if is_generated():
+        name = told("postconf", "-c", folder, "-h", "multi_instance_name")
+        return f"postfix@{name}.service" if name else ""
     name = str(folder).removeprefix(BEGINS)
-    if "/" in name or not name or not is_by_unit():
+    if "/" in name or not name or FOLDER not in template():
         return ""
     return run("systemd-escape", f"--template={TEMPLATE}", name).stdout.strip()
 
 
 def hint(folder: Path) -> str:
     """What is left to do by hand where an instance needs a unit, and none is for its folder."""
-    if unit_of(folder) or not is_by_unit():
+    if unit_of(folder) or FOLDER not in template():
         return ""
     return f"{folder} is not called {BEGINS}NAME: a boot starts it by a unit of your own alone"
 
@@ -47,18 +55,19 @@ def is_(state: str, unit: str) -> bool:
                               stdin=subprocess.DEVNULL, stderr=subprocess.DEVNULL).returncode
 
 
+def is_generated() -> bool:
+    """Whether a boot starts each instance, without a unit that is enabled."""
+    return BY_NAME in template()
+
+
 def is_in_place(unit: str) -> bool:
     """Whether a boot starts the unit, and it runs."""
-    return is_("enabled", unit) and is_("active", unit)
+    return (is_generated() or is_("enabled", unit)) and is_("active", unit)
 
 
 def put_in_place(unit: str, folder: Path) -> None:
-    """Has the unit start the instance, now and at a boot.
-
-    What runs outside of it, as in the session of an administrator, ends: nothing that starts
-    Postfix again, as an upgrade of it, would reach that.
-    """
-    run("systemctl", "enable", unit)
+    """Has the unit start the instance, now and at a boot; what runs outside of it ends."""
+    run("systemctl", *(["daemon-reload"] if is_generated() else ["enable", unit]))
     if not is_("active", unit):
         subprocess.run(["postfix", "-c", folder, "stop"], stdin=subprocess.DEVNULL, check=False,
                        stdout=subprocess.DEVNULL, stderr=subprocess.DEVNULL)

@@ -128,20 +128,25 @@ def way_to_the_worker(settings: Settings) -> str:
     return f"content_filter=desk:[{host}]:{port}"
 
 
+def questions(settings: Settings) -> dict[str, str]:
+    """The options by which the listener of customers asks the worker; none without `policy`."""
+    if not settings.policy:
+        return {}
+    asks = f"check_policy_service,inet:{named(settings.policy)}"
+    # (while nobody answers, mail goes the common way)
+    return {"smtpd_recipient_restrictions": asks, "smtpd_end_of_data_restrictions": asks,
+            "smtpd_policy_service_default_action": "DUNNO", "smtpd_policy_service_try_limit": "1",
+            "smtpd_policy_service_timeout": "10s"}
+
+
 def customers_listener(settings: Settings) -> dict[str, Line]:
     """The listener of customers; none if the firm adds the way to the worker to its own."""
     if not settings.customers_at:
         return {}
     at = named(settings.customers_at)
     options = [way_to_the_worker(settings),
-               "smtpd_relay_restrictions=permit_mynetworks,permit_sasl_authenticated,reject"]
-    if settings.policy:
-        # (while nobody answers, mail goes the common way)
-        policy_at = f"inet:{named(settings.policy)}"
-        options += [f"{restrictions}=check_policy_service,{policy_at}" for restrictions in (
-            "smtpd_recipient_restrictions", "smtpd_end_of_data_restrictions")]
-        options += ["smtpd_policy_service_default_action=DUNNO",
-                    "smtpd_policy_service_try_limit=1", "smtpd_policy_service_timeout=10s"]
+               "smtpd_relay_restrictions=permit_mynetworks,permit_sasl_authenticated,reject",
+               *(f"{name}={value}" for name, value in questions(settings).items())]
     words = [word for option in options for word in ("-o", option)]
     return {f"{at}/inet": Line(service(at, "inet", "-", "smtpd", *words),
                                "takes the mail of customers; no other goes to the desk")}

@@ -10,6 +10,8 @@ from hq_relay.settings import Settings
 
 # Where a service has mail of the desk go.
 LEADS = re.compile(r"\bcontent_filter=(desk:\S*)")
+# How the parameters are called by which a listener asks.
+RESTRICTIONS = "_restrictions"
 # A service at the port of mail, to which a name in DNS may lead; and a network of this machine.
 AT_PORT_25 = re.compile(r"(?:.*:)?(?:smtp|25)/inet")
 OWN_NETWORK = re.compile(r"(?:^|[\s,])(?:127\.|\[::1\]|\[::ffff:127)")
@@ -19,11 +21,24 @@ def hints(settings: Settings) -> Iterator[str]:
     """The steps that are left to do by hand at these listeners."""
     way = lines.way_to_the_worker(settings)
     services = MasterServices(settings.front).present()
-    if not settings.customers_at and not any(way in service for service in services.values()):
-        yield f"add to your listener of customers in master.cf: -o {way}"
+    asking = " ".join(f"-o {it}={value}" for it, value in lines.questions(settings).items())
+    leading = {name: service for name, service in services.items()
+               if way in (f"content_filter={found}" for found in LEADS.findall(service))}
+    if not settings.customers_at and not leading:
+        yield f"add to your listener of customers in master.cf: -o {way} {asking}".rstrip()
+    for name, service in leading.items():
+        if not asks(settings, service):
+            yield (f"{name} in master.cf takes customers' mail and does not ask the worker, as"
+                   f" `policy` wants it: give it {asking}")
     yield from elsewhere(way, services)
     if settings.domains:
         yield from trusting(settings.front, services)
+
+
+def asks(settings: Settings, service: str) -> bool:
+    """Whether a listener asks the worker before it takes mail. What that refuses bounces else."""
+    return all(value in option(settings.front, service, name)
+               for name, value in lines.questions(settings).items() if name.endswith(RESTRICTIONS))
 
 
 def elsewhere(way: str, services: Mapping[str, str]) -> Iterator[str]:
