@@ -18,7 +18,6 @@ import json
 import os
 import re
 import shutil
-import socket
 import subprocess
 import sys
 import tempfile
@@ -27,7 +26,7 @@ from datetime import datetime, timezone
 from pathlib import Path
 from typing import Callable, Dict, Iterator, List, NamedTuple, Optional, Tuple
 
-from desk_apart import recorded_in, settings_of
+from desk_apart import LONGEST, client_of, recorded_in, settings_of
 
 COLUMNS = ["name", "key", "messages", "bytes", "lines", "notices", "delay"]
 FURTHER = "history"
@@ -48,8 +47,8 @@ LOCK, WHOLE, BESIDE, GONE, TRIAL = ".customers.lock", ".customers.whole", ".cust
 DESK = re.compile(r"[0-9A-Za-z][0-9A-Za-z_-]{0,63}")
 # Tables of this folder that are no directory.
 OTHERS = ("relay", "senders", "dropped", "erased", "moved", "desks", "events", "up")
-# In seconds: how long another one may have the lock, and what a command may take.
-PATIENCE, LONGEST = 60, 120
+# In seconds: how long another one may have the lock.
+PATIENCE = 60
 
 
 class Refused(Exception):
@@ -157,28 +156,6 @@ def text_of(rows: List[List[str]]) -> str:
     return made.getvalue()
 
 
-class OverPath(http.client.HTTPConnection):
-    """A connection to a desk that listens at a path."""
-
-    def __init__(self, path: str, longest: int):
-        super().__init__("localhost", timeout=longest)
-        self.path = path
-
-    def connect(self) -> None:
-        self.sock = socket.socket(socket.AF_UNIX)
-        self.sock.settimeout(self.timeout)
-        self.sock.connect(self.path)
-
-
-def client_of(listen: str, longest: int = LONGEST) -> http.client.HTTPConnection:
-    """A connection to the desk that listens at HOST:PORT or unix:PATH, each of whose waits takes so many seconds at most."""
-    kind, _, path = listen.partition(":")
-    if kind == "unix":
-        return OverPath(path, longest)
-    host, _, port = listen.rpartition(":")
-    return http.client.HTTPConnection(host.strip("[]"), int(port), timeout=longest)
-
-
 class Desk:
     """A desk of this machine: its settings, and its customers."""
 
@@ -203,13 +180,17 @@ class Desk:
         self.had_rows = bool(rows)
         self.keys_path = keys_beside(self.path)
         self.keys: List[Dict[str, str]] = []
+        self.nobodys: List[Dict[str, str]] = []
 
     def read_keys(self) -> None:
-        """Its named keys, for who writes them. (Who asks a desk has other keys, so that a fault of this file is none to it.)"""
+        """Its named keys, for who writes them. (Who asks a desk has other keys, so that a fault of this file is none to it.) One whose customer
+        has no row is nobody's, as of a desk that was dropped: whoever gets the name next is not to get it."""
         header, *rows = (rows_of(self.keys_path) or [[]]) if self.keys_path.exists() else [NAMED]
         if header != NAMED or any(len(it) != len(NAMED) for it in rows):
             raise Refused(f"{self.keys_path} is no file of named keys: see `hq check`")
-        self.keys = [dict(zip(NAMED, it)) for it in rows]
+        known = {row["name"] for row in self.rows}
+        for it in (dict(zip(NAMED, row)) for row in rows):
+            (self.keys if it["customer"] in known else self.nobodys).append(it)
 
     def text(self) -> str:
         return text_of([self.columns, *([row[it] for it in self.columns] for row in self.rows)])
@@ -315,6 +296,8 @@ class Folder:
                 print(f"{it} was open to others, who may know its keys; it is closed now", file=sys.stderr, flush=True)
             for (kind, sender), name in sorted(self.nobodys.items()):
                 print(f"{name} is in no directory, so the {kind} {sender} is not its any more", file=sys.stderr, flush=True)
+            for key in (it for desk in self.desks for it in desk.nobodys):
+                print(f"{key['customer']} is in no directory, so the key {key['name']} is not its any more", file=sys.stderr, flush=True)
             for it in (it for _, it in self.beyond if not it.exists()):
                 print(f"{it} is gone, so nginx knows none of its customers any more", file=sys.stderr, flush=True)
         self.closed, self.nobodys, self.beyond = [], {}, [it for it in self.beyond if it[1].exists()]

@@ -12,7 +12,7 @@ import time
 from pathlib import Path
 from typing import Dict, Iterator, List, Optional, Set, Tuple, Union
 
-from desk_apart import run_apart
+from desk_apart import STOPPED, run_apart
 from desk_files import DESK, LONGEST, Desk, Folder, Refused
 
 # The folder of the worker's mail in the settings that the package brings.
@@ -173,6 +173,13 @@ def end(desks: List[str]) -> None:
         raise Refused(f"nothing was changed, and a desk may still run: {faults[0]}")
 
 
+def forget_stop(desks: List[str]) -> None:
+    """No mark of desk-stop is left of desks that are gone: a new one of that name starts."""
+    for it in desks:
+        with contextlib.suppress(FileNotFoundError):
+            (STOPPED / it).unlink()
+
+
 def count_again() -> None:
     """Has the counts for Prometheus made anew, without waiting, where they are made at all."""
     if shutil.which("systemctl") and is_active("hq-desk-metrics.timer"):
@@ -225,7 +232,7 @@ def kept_for_later(faults: List[str]) -> Iterator[None]:
 
 def told_at_last(faults: List[str]) -> None:
     if faults:
-        raise Refused(f"the others are done; mend this, or move that file to another folder, and run it again: {' / '.join(faults)}")
+        raise Refused(f"the others are done; mend this, and run it again (a store of no desk may go to another folder): {' / '.join(faults)}")
 
 
 def names_in(directory: Path) -> Set[str]:
