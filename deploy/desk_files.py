@@ -24,7 +24,7 @@ import tempfile
 import time
 from datetime import datetime, timezone
 from pathlib import Path
-from typing import Callable, Dict, Iterator, List, NamedTuple, Optional, Tuple
+from typing import Callable, Dict, Iterator, List, NamedTuple, Optional, Set, Tuple
 
 from desk_apart import LONGEST, client_of, recorded_in, settings_of
 
@@ -180,17 +180,16 @@ class Desk:
         self.had_rows = bool(rows)
         self.keys_path = keys_beside(self.path)
         self.keys: List[Dict[str, str]] = []
-        self.nobodys: List[Dict[str, str]] = []
+        # (names that have keys and no row: `hq check` refuses these, unless somebody gets the name)
+        self.keyed: Set[str] = set()
 
     def read_keys(self) -> None:
-        """Its named keys, for who writes them. (Who asks a desk has other keys, so that a fault of this file is none to it.) One whose customer
-        has no row is nobody's, as of a desk that was dropped: whoever gets the name next is not to get it."""
+        """Its named keys, for who writes them. (Who asks a desk has other keys, so that a fault of this file is none to it.)"""
         header, *rows = (rows_of(self.keys_path) or [[]]) if self.keys_path.exists() else [NAMED]
         if header != NAMED or any(len(it) != len(NAMED) for it in rows):
             raise Refused(f"{self.keys_path} is no file of named keys: see `hq check`")
-        known = {row["name"] for row in self.rows}
-        for it in (dict(zip(NAMED, row)) for row in rows):
-            (self.keys if it["customer"] in known else self.nobodys).append(it)
+        self.keys = [dict(zip(NAMED, it)) for it in rows]
+        self.keyed = {it["customer"] for it in self.keys} - {it["name"] for it in self.rows}
 
     def text(self) -> str:
         return text_of([self.columns, *([row[it] for it in self.columns] for row in self.rows)])
@@ -296,8 +295,6 @@ class Folder:
                 print(f"{it} was open to others, who may know its keys; it is closed now", file=sys.stderr, flush=True)
             for (kind, sender), name in sorted(self.nobodys.items()):
                 print(f"{name} is in no directory, so the {kind} {sender} is not its any more", file=sys.stderr, flush=True)
-            for key in (it for desk in self.desks for it in desk.nobodys):
-                print(f"{key['customer']} is in no directory, so the key {key['name']} is not its any more", file=sys.stderr, flush=True)
             for it in (it for _, it in self.beyond if not it.exists()):
                 print(f"{it} is gone, so nginx knows none of its customers any more", file=sys.stderr, flush=True)
         self.closed, self.nobodys, self.beyond = [], {}, [it for it in self.beyond if it[1].exists()]
@@ -343,6 +340,8 @@ class Folder:
 
     def put_keys(self, desk: Desk, group: int) -> None:
         """Its named keys, and the setting that has it read them. Without any there is no file, and settings stay as they are."""
+        if taken := sorted(desk.keyed & {it["name"] for it in desk.rows}):
+            raise Refused(f"{desk.keys_path} has keys of an earlier {', '.join(taken)}, and nothing was changed: take their rows out first")
         if desk.keys:
             self.put_closed(desk.keys_path, desk.keys_text(), 0o640, group)
         elif desk.keys_path.exists():

@@ -3,6 +3,7 @@ import argparse
 import configparser
 import contextlib
 import csv
+import fcntl
 import os
 import re
 import shutil
@@ -21,6 +22,8 @@ SPOOL = "/var/lib/hqrelay/spool"
 LONGEST_ERASING = 300
 # What a customer may be called.
 NAME = re.compile(r"[a-z0-9-]{1,32}")
+# The begin of the name of a file that says which desks do not go by their files yet.
+UNTAKEN = ".untaken-"
 # What `desk-store` ends with where it did its work: wholly, where it knows no such customer, and where more is left.
 DONE, UNKNOWN, MORE = 0, 3, 4
 # So many seconds a `deliver` that has little under way takes to go by other tables, and nginx at most, whose processes of before take
@@ -47,6 +50,32 @@ def go_on() -> None:
     # (what is begun here would inherit that signals are ignored, and so they are handled)
     for it in (signal.SIGHUP, signal.SIGINT, signal.SIGTERM):
         signal.signal(it, lambda *_: None)
+
+
+@contextlib.contextmanager
+def untaken(folder: Path, desks: List[Desk]) -> Iterator[None]:
+    """Notes these desks as long as nothing goes by the files. What is told of a fault ends that too, and a kill does not."""
+    note = folder / f"{UNTAKEN}{os.getpid()}"
+    with open(os.open(note, os.O_WRONLY | os.O_CREAT | os.O_TRUNC, 0o600), "w") as file:
+        fcntl.flock(file, fcntl.LOCK_EX)
+        file.write("".join(f"{it.name}\n" for it in desks))
+        file.flush()
+        try:
+            yield
+        finally:
+            note.unlink(missing_ok=True)
+
+
+def take_up_left(scripts: Path, folder: Folder) -> None:
+    """Has what runs go by files that a call has left which was killed: a key that has ended would go on, and is in no file any more."""
+    left: List[str] = []
+    for note in folder.path.glob(f"{UNTAKEN}*"):
+        with open(note) as file, contextlib.suppress(BlockingIOError):
+            fcntl.flock(file, fcntl.LOCK_EX | fcntl.LOCK_NB)
+            left += ["", *file.read().split()]
+            note.unlink()
+    if left:
+        take_up(scripts, [it for it in folder.desks if it.name in left], True)
 
 
 def take_up(scripts: Path, desks: List[Desk], is_gone: bool) -> None:

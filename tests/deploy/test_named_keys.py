@@ -218,19 +218,14 @@ def test_customer_gone_at_each_step(place):
     expect(20 < number < 200 and "acme" not in place.rows(), "it was stopped", number, "times")
 
 
-def test_keys_of_nobody(place):
-    """A key whose customer has no row is nobody's, as of a desk that was dropped and is set up anew: whoever gets that name gets no key of
-    the firm that had it, and that is told."""
-    old = "oldkey0000000000000000000000000000000001"
-    (place.folder / "north.keys.csv").write_text(f"{NAMED}oak,panel,{old},all\n")
+def test_keys_of_an_earlier_one(place):
+    """Keys are left of a customer whose row is gone, as where a desk was dropped and is set up anew: nobody gets that name before they go,
+    since the firm that has these keys would read what the new one has."""
+    (place.folder / "north.keys.csv").write_text(f"{NAMED}oak,panel,oldkey0000000001,all\n")
+    before = place.files()
     ended = place.run("--store", place.folder, "add", "oak")
-    expect(ended.returncode == 0 and "oak is in no directory, so the key panel is not its any more" in ended.stderr, "it ended with", ended)
-    expect(not any(old.encode() in text for text in place.files().values()) and keys_of(place) == [], "there is", keys_of(place))
+    expect(ended.returncode == 1 and "north.keys.csv has keys of an earlier oak" in ended.stderr and place.files() == before, "that name", ended)
+    (place.folder / "north.keys.csv").unlink()
+    place.done("--store", place.folder, "add", "oak")
     starts(place)
-    # (so it is for others, whose own keys stay)
-    key = place.done("add-key", "acme", "panel").strip()
-    with open(place.folder / "north.keys.csv", "a") as file:
-        file.write(f"elm,panel,{old},all\n")
-    place.run("set", "acme", "--messages", "900")
-    expect(keys_of(place) == [["acme", "panel", key, "all"]], "there is", keys_of(place))
-    starts(place)
+    expect(not keys_of(place), "there is", keys_of(place))
