@@ -17,6 +17,7 @@ import io
 import json
 import os
 import re
+import secrets
 import shutil
 import subprocess
 import sys
@@ -270,6 +271,11 @@ class Folder:
         names = [*(it.name for it in self.desks), *(desk for _, desk in self.desks_before)]
         own, directories = {it.settings["LISTEN"].lower() for it in self.desks}, {self.path.absolute() / f"{it}.csv" for it in names}
         return [it for it in recorded_in(self.path / "desks.conf") if it[0].lower() not in own and it[1] not in directories]
+
+    def new_key(self) -> str:
+        """A key that nobody on this machine has."""
+        known = {it["key"].lower() for desk in self.desks for it in [*desk.rows, *desk.keys]}
+        return next(key for key in iter(lambda: secrets.token_hex(20), "") if key not in known)
 
     def of_worker(self) -> str:
         """The directories of all desks, without a key."""
