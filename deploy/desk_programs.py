@@ -56,11 +56,10 @@ def go_on() -> None:
 def untaken(folder: Path, desks: List[Desk]) -> Iterator[None]:
     """Notes these desks as long as nothing goes by the files. What is told of a fault ends that too, and a kill does not."""
     note = folder / f"{UNTAKEN}{os.getpid()}"
-    with open(os.open(note, os.O_WRONLY | os.O_CREAT | os.O_TRUNC, 0o600), "w") as file:
-        fcntl.flock(file, fcntl.LOCK_EX)
-        file.write("".join(f"{it.name}\n" for it in desks))
-        file.flush()
+    with open(os.open(note, os.O_WRONLY | os.O_CREAT | os.O_TRUNC, 0o600), "wb", 0) as file:
         try:
+            fcntl.flock(file, fcntl.LOCK_EX)
+            file.write("".join(f"{it.name}\n" for it in desks).encode())
             yield
         finally:
             note.unlink(missing_ok=True)
