@@ -125,8 +125,8 @@ LOCKS, COPIED = Path("/run/hq-desk.locks"), Path("/run/hq-desk.copied")
 STOPPED, OF_A_MOVE, OF_A_RESTORE, OF_A_FIT = Path("/var/lib/hq-desk-stopped"), "{}.moving", "{}.restoring", "{}.fitting"
 
 # Who is moved from one desk to another, until that is done (desk-start reads it too); its steps: the first store has all rows, or
-# both have them and the second counts, or the second counts since the customer was there before; and whether desks are stopped for it,
-# or files alone are written.
+# both have them and the second counts, or the second counts since the customer was there before; and whether desks are
+# stopped for it, or files alone are written.
 MOVING, IS_ASKED, IS_COPIED, IS_OWN, OF_DESKS, OF_FILES = ".customers.moving", "asked", "copied", "own", "desks", "files"
 
 

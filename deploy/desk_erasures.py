@@ -113,21 +113,21 @@ def list_of(copy: Path, desk: str, what: str) -> Path:
 
 
 def refuse_unfit(folder: Folder, desk: Desk, copy: Path, given_up: List[str]) -> None:
-    """Refuses a copy of a desk whose lists do not fit the settings: these are of before it, or somebody has moved to the desk since."""
+    """Refuses a copy of a desk whose lists do not fit the settings: these are of before it, or somebody moved there since."""
     refuse_later(folder, desk, copy)
     refuse_earlier(folder, desk, copy, given_up)
 
 
 def refuse_later(folder: Folder, desk: Desk, copy: Path) -> None:
-    """Refuses a copy that has been through an erasure of which the settings know nothing: by them the earlier firm has the name, and would
-    read what the copy has of the next one."""
-    its = {*places_of(folder), *folder.dropped}
-    later = sorted(name for name, it in erased_in(list_of(copy, desk.name, "erased")).items() if name in its and is_later(it, folder.erased.get(name)))
+    """Refuses a copy that has been through an erasure of which the settings know nothing: by them the earlier firm has the
+    name, and would read what the copy has of the next one."""
+    its, copied = {*places_of(folder), *folder.dropped}, erased_in(list_of(copy, desk.name, "erased"))
+    later = sorted(name for name, it in copied.items() if name in its and is_later(it, folder.erased.get(name)))
     if later:
         ways = " && ".join(f"hq-customers drop {it} && hq-customers erase {it}" for it in later)
-        raise Refused(f"{folder.path} is of before this copy of {desk.name}: it does not know that {', '.join(later)} was erased, whose name may be "
-                      f"another firm's in the copy. Put its newest copy back. If there is no newer one, `{ways}` ends the earlier firm first, and "
-                      "erases what the copy has of that name")
+        raise Refused(f"{folder.path} is of before this copy of {desk.name}: it does not know that {', '.join(later)} was erased, "
+                      "whose name may be another firm's in the copy. Put its newest copy back. If there is no newer one, "
+                      f"`{ways}` ends the earlier firm first, and erases what the copy has of that name")
 
 
 def is_later(copied: Erased, known: Optional[Erased]) -> bool:

@@ -347,7 +347,8 @@ class Folder:
     def put_keys(self, desk: Desk, group: int) -> None:
         """Its named keys, and the setting that has it read them. Without any there is no file, and settings stay as they are."""
         if taken := sorted(desk.keyed & {it["name"] for it in desk.rows}):
-            raise Refused(f"{desk.keys_path} has keys of an earlier {', '.join(taken)}, and nothing was changed: take their rows out first")
+            raise Refused(f"{desk.keys_path} has keys of an earlier {', '.join(taken)}, and nothing was changed: "
+                          "take their rows out first")
         if desk.keys:
             self.put_closed(desk.keys_path, desk.keys_text(), 0o640, group)
         elif desk.keys_path.exists():

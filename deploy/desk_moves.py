@@ -15,8 +15,8 @@ from pathlib import Path
 from typing import List, Optional
 
 import desk_programs
-from desk_apart import (IS_ASKED, IS_COPIED, IS_OWN, MOVED, MOVES, MOVING, OF_A_FIT, OF_A_MOVE, OF_DESKS, OF_FILES, STOPPED, Move, alone, marked,
-                        restoring, run_apart, under_way)
+from desk_apart import (IS_ASKED, IS_COPIED, IS_OWN, MOVED, MOVES, MOVING, OF_A_FIT, OF_A_MOVE, OF_DESKS, OF_FILES, STOPPED,
+                        Move, alone, marked, restoring, run_apart, under_way)
 from desk_files import BESIDE, FURTHER, Desk, Folder, Refused, now, put_beside, sync, table_of, text_of
 
 # What works at stores, and would find the customer in both, or in none. (erase-again is for a store that comes back meanwhile.)
@@ -82,7 +82,8 @@ def move(scripts: Path, folder: Folder, given: argparse.Namespace, its_desk: Des
     # (a restore waits for the end of a half move before its desk starts)
     refuse_restored(its_desk, target, is_fit_too=not going)
     is_new = going is None
-    going = going or Move(given.name, its_desk.name, target.name, IS_OWN if given.same_firm else IS_ASKED, OF_FILES if given.files else OF_DESKS)
+    step, kind = IS_OWN if given.same_firm else IS_ASKED, OF_FILES if given.files else OF_DESKS
+    going = going or Move(given.name, its_desk.name, target.name, step, kind)
     if is_new:
         refuse(folder, given, its_desk, target)
     carry(folder, going)
@@ -97,10 +98,12 @@ def move(scripts: Path, folder: Folder, given: argparse.Namespace, its_desk: Des
 
 
 def copied_anew(scripts: Path, folder: Folder, store: Path, desk: Desk) -> List[str]:
-    """The store of a desk has come back. Who is half moved there is copied anew, as long as the first store has the records: what the second one
-    has of them is of before. Whose records go there for that."""
+    """The store of a desk has come back. Who is half moved there is copied anew, as long as the first store has the
+    records: what the second one has of them is of before. Whose records go there for that."""
     going = under_way(folder.path)
-    if not going or going.target != desk.name or going.step == IS_OWN or not is_known(scripts, store, going.source, going.customer):
+    if not going or going.target != desk.name or going.step == IS_OWN:
+        return []
+    if not is_known(scripts, store, going.source, going.customer):
         return []
     mark(folder.path, going._replace(step=IS_ASKED))
     return [going.customer]

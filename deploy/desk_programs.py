@@ -54,7 +54,7 @@ def go_on() -> None:
 
 @contextlib.contextmanager
 def untaken(folder: Path, desks: List[Desk]) -> Iterator[None]:
-    """Notes these desks as long as nothing goes by the files. What is told of a fault ends that too, and a kill does not."""
+    """Notes these desks as long as nothing goes by the files. A fault that is printed ends that too, and a kill does not."""
     note = folder / f"{UNTAKEN}{os.getpid()}"
     with open(os.open(note, os.O_WRONLY | os.O_CREAT | os.O_TRUNC, 0o600), "wb", 0) as file:
         try:
@@ -66,7 +66,7 @@ def untaken(folder: Path, desks: List[Desk]) -> Iterator[None]:
 
 
 def take_up_left(scripts: Path, folder: Folder) -> None:
-    """Has what runs go by files that a call has left which was killed: a key that has ended would go on, and is in no file any more."""
+    """Has what runs go by the files of a call that was killed: a key that it has ended would go on, and is in no file."""
     left: List[str] = []
     for note in folder.path.glob(f"{UNTAKEN}*"):
         with open(note) as file, contextlib.suppress(BlockingIOError):
@@ -260,7 +260,8 @@ def kept_for_later(faults: List[str]) -> Iterator[None]:
 
 def told_at_last(faults: List[str]) -> None:
     if faults:
-        raise Refused(f"the others are done; mend this, and run it again (a store of no desk may go to another folder): {' / '.join(faults)}")
+        raise Refused("the others are done; mend this, and run it again (a store of no desk may go to another folder): "
+                      f"{' / '.join(faults)}")
 
 
 def names_in(directory: Path) -> Set[str]:

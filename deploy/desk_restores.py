@@ -49,7 +49,7 @@ class Restore(NamedTuple):
     # whether desk-stop had stopped the desk before
     was_stopped: bool
     step: str = BEGUN
-    # of a desk that may have started by an earlier copy, to which the worker's book is not fitted yet: when that copy was made
+    # when an earlier copy was made, by which the desk may have started, and to which the worker's book is not fitted yet
     unfitted: str = ""
 
 
