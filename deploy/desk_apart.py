@@ -1,10 +1,12 @@
 """What keeps root apart from the user of a service: who has taken over that user may have written whatever a command prints, and
-reads the environment of each process of its own. And a file of settings, as systemd reads it; the desks that nginx knows; the lock of
-who works at a store; and the mark of who is moved."""
+reads the environment of each process of its own. And a connection to a desk; a file of settings, as systemd reads it; the desks that
+nginx knows; the lock of who works at a store; and the mark of who is moved."""
 import contextlib
 import fcntl
+import http.client
 import os
 import re
+import socket
 import subprocess
 import sys
 import threading
@@ -58,6 +60,32 @@ def run_apart(words: list, read: str = "", most: int = MOST, longest: Optional[f
     return subprocess.CompletedProcess(words, command.returncode, told, faults)
 
 
+# In seconds: what a command may take, and each wait for a desk.
+LONGEST = 120
+
+
+class OverPath(http.client.HTTPConnection):
+    """A connection to a desk that listens at a path."""
+
+    def __init__(self, path: str, longest: int):
+        super().__init__("localhost", timeout=longest)
+        self.path = path
+
+    def connect(self) -> None:
+        self.sock = socket.socket(socket.AF_UNIX)
+        self.sock.settimeout(self.timeout)
+        self.sock.connect(self.path)
+
+
+def client_of(listen: str, longest: int = LONGEST) -> http.client.HTTPConnection:
+    """A connection to the desk that listens at HOST:PORT or unix:PATH, each of whose waits takes so many seconds at most."""
+    kind, _, path = listen.partition(":")
+    if kind == "unix":
+        return OverPath(path, longest)
+    host, _, port = listen.rpartition(":")
+    return http.client.HTTPConnection(host.strip("[]"), int(port), timeout=longest)
+
+
 # A value of a file of settings, which may stand between quotes; and the settings that scripts read.
 VALUE, READ = re.compile(r"""(["'])([^"'\\]*)\1|[^"'\\]*"""), ("HOST", "LISTEN")
 
@@ -97,8 +125,9 @@ LOCKS, COPIED = Path("/run/hq-desk.locks"), Path("/run/hq-desk.copied")
 STOPPED, OF_A_MOVE, OF_A_RESTORE, OF_A_FIT = Path("/var/lib/hq-desk-stopped"), "{}.moving", "{}.restoring", "{}.fitting"
 
 # Who is moved from one desk to another, until that is done (desk-start reads it too); its steps: the first store has all rows, or
-# both have them and the second counts; and whether desks are stopped for it, or files alone are written.
-MOVING, IS_ASKED, IS_COPIED, OF_DESKS, OF_FILES = ".customers.moving", "asked", "copied", "desks", "files"
+# both have them and the second counts, or the second counts since the customer was there before; and whether desks are
+# stopped for it, or files alone are written.
+MOVING, IS_ASKED, IS_COPIED, IS_OWN, OF_DESKS, OF_FILES = ".customers.moving", "asked", "copied", "own", "desks", "files"
 
 
 # When each customer moved last, in a table of the folder of settings.

@@ -39,11 +39,12 @@ def erase_at(scripts: Path, folder: Folder, given: argparse.Namespace) -> None:
     print(f"the store of {given.desk}: {found[1] if found else 'there is none'}", flush=True)
 
 
-def erase_again(scripts: Path, folder: Folder, desk: Desk, given: argparse.Namespace) -> List[Desk]:
-    """Erases in the store of a desk, which a backup of before has brought back, whoever was erased since then."""
+def erase_again(scripts: Path, folder: Folder, desk: Desk, given: argparse.Namespace, more: List[str]) -> List[Desk]:
+    """Erases in the store of a desk, which a backup of before has brought back, whoever was erased since then, and more."""
     if given.copy:
-        refuse_earlier(folder, desk, given.copy, given.without)
+        refuse_unfit(folder, desk, given.copy, given.without)
     names = erased_since_copy(folder, desk, given.copy) if given.copy else erased_since(folder, given.copied)
+    names += [*more, *(row["name"] for row in desk.rows if row["name"] in given.without)]
     found = desk_programs.of_store(scripts, desk.name, given.store, "erase-again", "-", "".join(f"{it}\n" for it in names))
     print(f"the store of {desk.name}: {found[1] if found else 'there is none'}", flush=True)
     # (they are in nobody's way, and whoever is at another desk by settings of before would lose them)
@@ -109,6 +110,29 @@ def is_same(before: Optional[Erased], after: Erased) -> bool:
 def list_of(copy: Path, desk: str, what: str) -> Path:
     """The table that desk-backup has written beside a copy. (A copy of an earlier release has none, nor has a snapshot.)"""
     return copy / f"{desk}.{what}.csv"
+
+
+def refuse_unfit(folder: Folder, desk: Desk, copy: Path, given_up: List[str]) -> None:
+    """Refuses a copy of a desk whose lists do not fit the settings: these are of before it, or somebody moved there since."""
+    refuse_later(folder, desk, copy)
+    refuse_earlier(folder, desk, copy, given_up)
+
+
+def refuse_later(folder: Folder, desk: Desk, copy: Path) -> None:
+    """Refuses a copy that has been through an erasure of which the settings know nothing: by them the earlier firm has the
+    name, and would read what the copy has of the next one."""
+    its, copied = {*places_of(folder), *folder.dropped}, erased_in(list_of(copy, desk.name, "erased"))
+    later = sorted(name for name, it in copied.items() if name in its and is_later(it, folder.erased.get(name)))
+    if later:
+        ways = " && ".join(f"hq-customers drop {it} && hq-customers erase {it}" for it in later)
+        raise Refused(f"{folder.path} is of before this copy of {desk.name}: it does not know that {', '.join(later)} was erased, "
+                      "whose name may be another firm's in the copy. Put its newest copy back. If there is no newer one, "
+                      f"`{ways}` ends the earlier firm first, and erases what the copy has of that name")
+
+
+def is_later(copied: Erased, known: Optional[Erased]) -> bool:
+    """Whether a copy has been through an erasure that is later than the one that is known of that name."""
+    return known is None or (not is_same(copied, known) and copied.moment > known.moment)
 
 
 def refuse_earlier(folder: Folder, desk: Desk, copy: Path, given_up: List[str]) -> None:

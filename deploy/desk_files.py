@@ -17,17 +17,17 @@ import io
 import json
 import os
 import re
+import secrets
 import shutil
-import socket
 import subprocess
 import sys
 import tempfile
 import time
 from datetime import datetime, timezone
 from pathlib import Path
-from typing import Callable, Dict, Iterator, List, NamedTuple, Optional, Tuple
+from typing import Callable, Dict, Iterator, List, NamedTuple, Optional, Set, Tuple
 
-from desk_apart import recorded_in, settings_of
+from desk_apart import LONGEST, client_of, recorded_in, settings_of
 
 COLUMNS = ["name", "key", "messages", "bytes", "lines", "notices", "delay"]
 FURTHER = "history"
@@ -48,8 +48,8 @@ LOCK, WHOLE, BESIDE, GONE, TRIAL = ".customers.lock", ".customers.whole", ".cust
 DESK = re.compile(r"[0-9A-Za-z][0-9A-Za-z_-]{0,63}")
 # Tables of this folder that are no directory.
 OTHERS = ("relay", "senders", "dropped", "erased", "moved", "desks", "events", "up")
-# In seconds: how long another one may have the lock, and what a command may take.
-PATIENCE, LONGEST = 60, 120
+# In seconds: how long another one may have the lock.
+PATIENCE = 60
 
 
 class Refused(Exception):
@@ -157,28 +157,6 @@ def text_of(rows: List[List[str]]) -> str:
     return made.getvalue()
 
 
-class OverPath(http.client.HTTPConnection):
-    """A connection to a desk that listens at a path."""
-
-    def __init__(self, path: str, longest: int):
-        super().__init__("localhost", timeout=longest)
-        self.path = path
-
-    def connect(self) -> None:
-        self.sock = socket.socket(socket.AF_UNIX)
-        self.sock.settimeout(self.timeout)
-        self.sock.connect(self.path)
-
-
-def client_of(listen: str, longest: int = LONGEST) -> http.client.HTTPConnection:
-    """A connection to the desk that listens at HOST:PORT or unix:PATH, each of whose waits takes so many seconds at most."""
-    kind, _, path = listen.partition(":")
-    if kind == "unix":
-        return OverPath(path, longest)
-    host, _, port = listen.rpartition(":")
-    return http.client.HTTPConnection(host.strip("[]"), int(port), timeout=longest)
-
-
 class Desk:
     """A desk of this machine: its settings, and its customers."""
 
@@ -203,6 +181,8 @@ class Desk:
         self.had_rows = bool(rows)
         self.keys_path = keys_beside(self.path)
         self.keys: List[Dict[str, str]] = []
+        # (names that have keys and no row: `hq check` refuses these, unless somebody gets the name)
+        self.keyed: Set[str] = set()
 
     def read_keys(self) -> None:
         """Its named keys, for who writes them. (Who asks a desk has other keys, so that a fault of this file is none to it.)"""
@@ -210,6 +190,7 @@ class Desk:
         if header != NAMED or any(len(it) != len(NAMED) for it in rows):
             raise Refused(f"{self.keys_path} is no file of named keys: see `hq check`")
         self.keys = [dict(zip(NAMED, it)) for it in rows]
+        self.keyed = {it["customer"] for it in self.keys} - {it["name"] for it in self.rows}
 
     def text(self) -> str:
         return text_of([self.columns, *([row[it] for it in self.columns] for row in self.rows)])
@@ -291,6 +272,11 @@ class Folder:
         own, directories = {it.settings["LISTEN"].lower() for it in self.desks}, {self.path.absolute() / f"{it}.csv" for it in names}
         return [it for it in recorded_in(self.path / "desks.conf") if it[0].lower() not in own and it[1] not in directories]
 
+    def new_key(self) -> str:
+        """A key that nobody on this machine has."""
+        known = {it["key"].lower() for desk in self.desks for it in [*desk.rows, *desk.keys]}
+        return next(key for key in iter(lambda: secrets.token_hex(20), "") if key not in known)
+
     def of_worker(self) -> str:
         """The directories of all desks, without a key."""
         rows = [[it[name] if name != "key" else "" for name in COLUMNS] for desk in self.desks for it in desk.rows]
@@ -360,6 +346,9 @@ class Folder:
 
     def put_keys(self, desk: Desk, group: int) -> None:
         """Its named keys, and the setting that has it read them. Without any there is no file, and settings stay as they are."""
+        if taken := sorted(desk.keyed & {it["name"] for it in desk.rows}):
+            raise Refused(f"{desk.keys_path} has keys of an earlier {', '.join(taken)}, and nothing was changed: "
+                          "take their rows out first")
         if desk.keys:
             self.put_closed(desk.keys_path, desk.keys_text(), 0o640, group)
         elif desk.keys_path.exists():

@@ -15,7 +15,8 @@ from pathlib import Path
 from typing import List, Optional
 
 import desk_programs
-from desk_apart import IS_ASKED, IS_COPIED, MOVED, MOVES, MOVING, OF_A_FIT, OF_A_MOVE, OF_DESKS, OF_FILES, STOPPED, Move, alone, marked, restoring, run_apart, under_way
+from desk_apart import (IS_ASKED, IS_COPIED, IS_OWN, MOVED, MOVES, MOVING, OF_A_FIT, OF_A_MOVE, OF_DESKS, OF_FILES, STOPPED,
+                        Move, alone, marked, restoring, run_apart, under_way)
 from desk_files import BESIDE, FURTHER, Desk, Folder, Refused, now, put_beside, sync, table_of, text_of
 
 # What works at stores, and would find the customer in both, or in none. (erase-again is for a store that comes back meanwhile.)
@@ -81,7 +82,8 @@ def move(scripts: Path, folder: Folder, given: argparse.Namespace, its_desk: Des
     # (a restore waits for the end of a half move before its desk starts)
     refuse_restored(its_desk, target, is_fit_too=not going)
     is_new = going is None
-    going = going or Move(given.name, its_desk.name, target.name, IS_COPIED if given.same_firm else IS_ASKED, OF_FILES if given.files else OF_DESKS)
+    step, kind = IS_OWN if given.same_firm else IS_ASKED, OF_FILES if given.files else OF_DESKS
+    going = going or Move(given.name, its_desk.name, target.name, step, kind)
     if is_new:
         desk_programs.refuse_other_key(target)
         refuse(folder, given, its_desk, target)
@@ -92,16 +94,26 @@ def move(scripts: Path, folder: Folder, given: argparse.Namespace, its_desk: Des
     desk_programs.go_on()
     mark(folder.path, going)
     do(scripts, folder, given, going)
-    write_down(folder.path, going.customer)
     unmark(folder.path)
     print(f"{given.name} is at {target.name} now")
+
+
+def copied_anew(scripts: Path, folder: Folder, store: Path, desk: Desk) -> List[str]:
+    """The store of a desk has come back. Who is half moved there is copied anew, as long as the first store has the
+    records: what the second one has of them is of before. Whose records go there for that."""
+    going = under_way(folder.path)
+    if not going or going.target != desk.name or going.step == IS_OWN:
+        return []
+    if not is_known(scripts, store, going.source, going.customer):
+        return []
+    mark(folder.path, going._replace(step=IS_ASKED))
+    return [going.customer]
 
 
 def end(scripts: Path, folder: Folder, name: str) -> None:
     """Ends what is left of a move that was stopped behind its last step: a mark, and desks that were to start."""
     left = marked(folder.path)
     if left and left.customer == name:
-        write_down(folder.path, name)
         faults = [*desk_programs.reload_all(), *start(scripts, [it.name for it in folder.desks if it.name in (left.source, left.target)])]
         unmark(folder.path)
         if faults:
@@ -164,6 +176,7 @@ def do(scripts: Path, folder: Folder, given: argparse.Namespace, going: Move) ->
         with contextlib.ExitStack() as locks:
             held = [locks.enter_context(alone(it, "hq-customers")) for it in desks]
             move_rows(scripts, folder.path, given.store, going, held)
+            write_down(folder.path, going.customer)
             folder.write(scripts)
     except (Refused, OSError, ValueError, subprocess.SubprocessError) as fault:
         call_off(scripts, given, desks, going, str(fault))

@@ -3,6 +3,7 @@ import argparse
 import configparser
 import contextlib
 import csv
+import fcntl
 import os
 import re
 import shutil
@@ -12,7 +13,7 @@ import time
 from pathlib import Path
 from typing import Dict, Iterator, List, Optional, Set, Tuple, Union
 
-from desk_apart import run_apart
+from desk_apart import STOPPED, run_apart
 from desk_files import DESK, LONGEST, Desk, Folder, Refused
 
 # The folder of the worker's mail in the settings that the package brings.
@@ -21,6 +22,8 @@ SPOOL = "/var/lib/hqrelay/spool"
 LONGEST_ERASING = 300
 # What a customer may be called.
 NAME = re.compile(r"[a-z0-9-]{1,32}")
+# The begin of the name of a file that says which desks do not go by their files yet.
+UNTAKEN = ".untaken-"
 # What `desk-store` ends with where it did its work: wholly, where it knows no such customer, and where more is left.
 DONE, UNKNOWN, MORE = 0, 3, 4
 # So many seconds a `deliver` that has little under way takes to go by other tables, and nginx at most, whose processes of before take
@@ -47,6 +50,31 @@ def go_on() -> None:
     # (what is begun here would inherit that signals are ignored, and so they are handled)
     for it in (signal.SIGHUP, signal.SIGINT, signal.SIGTERM):
         signal.signal(it, lambda *_: None)
+
+
+@contextlib.contextmanager
+def untaken(folder: Path, desks: List[Desk]) -> Iterator[None]:
+    """Notes these desks as long as nothing goes by the files. A fault that is printed ends that too, and a kill does not."""
+    note = folder / f"{UNTAKEN}{os.getpid()}"
+    with open(os.open(note, os.O_WRONLY | os.O_CREAT | os.O_TRUNC, 0o600), "wb", 0) as file:
+        try:
+            fcntl.flock(file, fcntl.LOCK_EX)
+            file.write("".join(f"{it.name}\n" for it in desks).encode())
+            yield
+        finally:
+            note.unlink(missing_ok=True)
+
+
+def take_up_left(scripts: Path, folder: Folder) -> None:
+    """Has what runs go by the files of a call that was killed: a key that it has ended would go on, and is in no file."""
+    left: List[str] = []
+    for note in folder.path.glob(f"{UNTAKEN}*"):
+        with open(note) as file, contextlib.suppress(BlockingIOError):
+            fcntl.flock(file, fcntl.LOCK_EX | fcntl.LOCK_NB)
+            left += ["", *file.read().split()]
+            note.unlink()
+    if left:
+        take_up(scripts, [it for it in folder.desks if it.name in left], True)
 
 
 def take_up(scripts: Path, desks: List[Desk], is_gone: bool) -> None:
@@ -173,6 +201,13 @@ def end(desks: List[str]) -> None:
         raise Refused(f"nothing was changed, and a desk may still run: {faults[0]}")
 
 
+def forget_stop(desks: List[str]) -> None:
+    """No mark of desk-stop is left of desks that are gone: a new one of that name starts."""
+    for it in desks:
+        with contextlib.suppress(FileNotFoundError):
+            (STOPPED / it).unlink()
+
+
 def count_again() -> None:
     """Has the counts for Prometheus made anew, without waiting, where they are made at all."""
     if shutil.which("systemctl") and is_active("hq-desk-metrics.timer"):
@@ -225,7 +260,8 @@ def kept_for_later(faults: List[str]) -> Iterator[None]:
 
 def told_at_last(faults: List[str]) -> None:
     if faults:
-        raise Refused(f"the others are done; mend this, or move that file to another folder, and run it again: {' / '.join(faults)}")
+        raise Refused("the others are done; mend this, and run it again (a store of no desk may go to another folder): "
+                      f"{' / '.join(faults)}")
 
 
 def names_in(directory: Path) -> Set[str]:

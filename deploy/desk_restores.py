@@ -49,6 +49,8 @@ class Restore(NamedTuple):
     # whether desk-stop had stopped the desk before
     was_stopped: bool
     step: str = BEGUN
+    # when an earlier copy was made, by which the desk may have started, and to which the worker's book is not fitted yet
+    unfitted: str = ""
 
 
 class Restores:

@@ -193,3 +193,23 @@ def test_a_store_that_is_lost(place):
             store.unlink()
         ended = run(place, "desk-backup", "--any", place / f"copy of {text}", "north")
         expect((ended.returncode, ended.stdout) == (0, wanted) and listens(address), "it ended with", ended)
+
+
+def test_put_back_meanwhile(place):
+    """A restore that begins while a copy waits for the store has it refused: until whoever was erased since is erased in that store, it is
+    not the one of the list beside the copy."""
+    needs.command("flock")
+    is_set_up(place, "north")
+    (place / "run.locks").mkdir()
+    holder = subprocess.Popen(["flock", place / "run.locks/north", "sleep", "60"])
+    try:
+        until(lambda: subprocess.run(["flock", "--nonblock", place / "run.locks/north", "true"]).returncode, "nobody works at the store")
+        copying = begin(place, "desk-backup", place / "copy", "north")
+        expect(copying.stdout.readline() == "desk-backup: it waits for who works at the store of north\n", "it does not wait")
+        (place / "stopped/north.restoring").touch()
+    finally:
+        subprocess.run(["pkill", "-P", str(holder.pid)], check=False)
+        holder.wait()
+    status, text = told(copying)
+    expect(status == 1 and "the store of north is being put back" in text, "it ended with", status, text)
+    expect(not (place / "copy/north.tar").exists() and not (place / "run.copied/north").exists(), "something was copied")

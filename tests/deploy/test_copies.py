@@ -140,8 +140,9 @@ def test_records_at_another_desk(place):
     # (the store of its new desk is one of before, and then that of its first one)
     ended = place.run("erase-again", "south", "--copy", stores)
     expect(ended.returncode == 1 and "from before birch moved there" in ended.stderr, "a copy of before", ended)
-    place.done("erase-again", "south", "--copy", stores, "--without", "birch")
     after = place.copy("after")
+    expect(" rows of birch\n" in place.done("erase-again", "south", "--copy", stores, "--without", "birch"), "what is given up stays")
+    place.put_back(after)
     shutil.copy(stores / "north.db", place.stores)
     # (they are in nobody's way there, and settings may be those of before)
     for status, words in enumerate((("erase-again", "north", "--copy", stores), ("compare",))):

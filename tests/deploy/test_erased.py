@@ -344,3 +344,5 @@ def test_other_stores(place):
     for words in (("add", "cedar"), ("erase", "cedar"), ("retain", "90")):
         ended = place.run(*words)
         expect(ended.returncode == 1 and "is no store of this release" in ended.stderr and path.read_bytes() == before, words, "got", ended)
+        # (it is the store of a desk, which is not to be taken away)
+        expect("move that file" not in ended.stderr, words, "got", ended)

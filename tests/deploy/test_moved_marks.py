@@ -160,3 +160,50 @@ def test_cut_behind_the_last_step(place):
     ended = place.move()
     expect((ended.returncode, ended.stdout) == (0, "dale is at south already\n"), "it ended with", ended)
     place.is_moved()
+
+
+def test_older_records_come_back(place):
+    """South's store comes back within a half move from a time when dale was there: what dale has at north by now is what counts, also where
+    it was copied before. Where dale is south's own, what south has counts."""
+    copied = shutil.copytree(place.stores, place.place / "copied")
+    with contextlib.closing(sqlite3.connect(copied / "south.db", isolation_level=None)) as store:
+        store.execute("ATTACH ? AS north", (str(copied / "north.db"),))
+        for table in TABLES:
+            store.execute(f"INSERT INTO {table} SELECT * FROM north.{table} WHERE customer = 'dale'")
+    for it, header in (("erased", "name,moment"), ("desks", "customer,desk")):
+        (copied / f"south.{it}.csv").write_text(f"{header}\n")
+    place.batch((place.now, "POST", "/v1/line-put", "dalekey000000001", {"class": "sender", "pattern": "new.example", "action": "HOLD"}))
+    place.before = place.has("north")
+    kept = place.kept()
+    for step in ("asked", "copied", "own"):
+        shutil.copy(copied / "south.db", place.stores)
+        older = place.has("south")
+        (place.folder / ".customers.moving").write_text(f"dale north south {step} desks\n")
+        for it in ("north", "south"):
+            (place.place / f"stopped/{it}.moving").touch()
+        place.boot()
+        ended = place.run("erase-again", "south", "--copy", copied)
+        expect(ended.returncode == 0 and (" rows of dale\n" in ended.stdout) == (step != "own"), step, "erase-again ended with", ended)
+        ended = place.move()
+        expect(ended.returncode == 0, step, "it ended with", ended)
+        expect(place.has("south") == (older if step == "own" else place.before), step, "dale has", place.has("south"))
+        place.again(kept)
+
+
+def test_written_down(place):
+    """When somebody moved stands there before anything goes by the files: a fault behind that keeps no copy of before from being refused."""
+    (place.place / "fails").write_text("reload nginx")
+    (place.place / "runs/nginx").touch()
+    ended = place.move()
+    expect(ended.returncode == 1 and "dale is at south now, and not all of it runs" in ended.stderr, "it ended with", ended)
+    (place.place / "runs/nginx").unlink()
+    expect((place.folder / "moved.csv").read_text().splitlines()[1].startswith("dale,20"), "it is not written down")
+
+
+def test_a_stop_of_a_desk_that_is_gone(place):
+    """A desk that was stopped, and is gone for good, keeps no new one of its name from a start."""
+    (place.place / "stopped/south").touch()
+    for it in ("south.env", "south.csv"):
+        (place.folder / it).unlink()
+    ended = place.run("drop-desk", "south")
+    expect(ended.returncode == 0 and not (place.place / "stopped/south").exists(), "it ended with", ended)

@@ -216,3 +216,16 @@ def test_customer_gone_at_each_step(place):
         for name, text in keep.items():
             (place.folder / name).write_bytes(text)
     expect(20 < number < 200 and "acme" not in place.rows(), "it was stopped", number, "times")
+
+
+def test_keys_of_an_earlier_one(place):
+    """Keys are left of a customer whose row is gone, as where a desk was dropped and is set up anew: nobody gets that name before they go,
+    since the firm that has these keys would read what the new one has."""
+    (place.folder / "north.keys.csv").write_text(f"{NAMED}oak,panel,oldkey0000000001,all\n")
+    before = place.files()
+    ended = place.run("--store", place.folder, "add", "oak")
+    expect(ended.returncode == 1 and "north.keys.csv has keys of an earlier oak" in ended.stderr and place.files() == before, "that name", ended)
+    (place.folder / "north.keys.csv").unlink()
+    place.done("--store", place.folder, "add", "oak")
+    starts(place)
+    expect(not keys_of(place), "there is", keys_of(place))

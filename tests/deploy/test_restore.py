@@ -326,7 +326,7 @@ def test_refused(place):
 
 
 def test_another_copy(place):
-    """As long as its desk has not started another copy may be taken, as what was there before; and none behind that."""
+    """As long as its desk has not started another copy may be taken, as what was there before; behind that with another folder aside."""
     (place.folder / "fails").write_text("migrate")
     place.restore()
     (place.folder / "fails").unlink()
@@ -336,8 +336,8 @@ def test_another_copy(place):
     expect(not [it for it in place.steps() if "desk-backup" in it], "there is another copy aside")
     (place.folder / "fails").write_text("restored")
     place.restore(aside="second")
-    ended = place.restore(aside="third")
-    expect(ended.returncode == 1 and "north has the copy in" in ended.stderr and "may have started by it" in ended.stderr, "it ended with", ended)
+    ended = place.restore(aside="second")
+    expect(ended.returncode == 1 and "second is there already" in ended.stderr and "north.fitting" in place.marks(), "it ended with", ended)
 
 
 def test_empty(place):

@@ -39,7 +39,7 @@ def configured(folder):
     text = (PACKAGING / "debian/hq-desk.postinst").read_text()
     for it, here in (("/usr/libexec/hq-desk/mail-goes-on", "mail-goes-on"), ("/usr/libexec/hq-desk/desk-maps", f"{DEPLOY}/desk-maps"), ("/usr/libexec/hq-desk/hq-as", f"{DEPLOY}/hq-as"),
                      ("hq-as hqdesk /usr/libexec/hq-desk/desk-store", f"hq-as hqdesk {DEPLOY}/desk-store"), ("/etc/hq", f"{folder}/etc/hq"),
-                     ("/etc/systemd", f"{folder}/etc/systemd"), ("/run/", f"{folder}/run/"), ("/usr/share/hq-desk/schema", f"{PACKAGING}/schema"),
+                     ("/var/lib/hq-desk-stopped", f"{folder}/stopped"), ("/etc/systemd", f"{folder}/etc/systemd"), ("/run/", f"{folder}/run/"), ("/usr/share/hq-desk/schema", f"{PACKAGING}/schema"),
                      ("schema \"/var/lib/hqdesk", f"schema \"{folder}/stores")):
         text = text.replace(it, here)
 
@@ -65,6 +65,20 @@ def test_behind_a_boot(configured, folder):
         expect("north" not in called and "hq-desk@south.service" in called and "hq-desk@west.service" in called, "it starts", called)
         for it in folder.glob("run/hq-desk.*"):
             it.unlink()
+
+
+def test_kept_stopped(configured, folder):
+    """What desk-stop, a move or a restore keeps stopped is asked of nobody behind a removal, since systemd would refuse it without a reason."""
+    (folder / "stopped").mkdir()
+    (folder / "etc/systemd/system/multi-user.target.wants/hq-relay-intake.service").write_text("")
+    for mark, unit in (("south", "hq-desk@south.service"), ("west.restoring", "hq-desk@west.service"), ("relay", "hq-relay-intake.service")):
+        for is_there in (False, True):
+            (folder / "run/hq-desk.again").touch()
+            if is_there:
+                (folder / "stopped" / mark).touch()
+            _, called = configured()
+            expect((f"start {unit}" in called.replace("try-restart", "again")) != is_there, mark, "is", is_there, "and it starts", called)
+        (folder / "stopped" / mark).unlink()
 
 
 def test_a_desk_that_runs(configured, folder):
