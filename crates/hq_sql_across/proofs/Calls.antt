@@ -142,19 +142,8 @@ calls_untold may host d t t' (a ∷ asks) (r ∷ made) rs h bare =
       calls_untold may host d h.0 t' asks made (drop 1 rs) h.2 (none_later a asks rs bare),
     )
 
--- the call under way where exchanges are done one by one
-stopped_untold : (d : Directory) (asks : List Ask) (rs : List SeenReply) (us : List Unheard) →
-    StoppedAt d asks rs us → AreUntold d asks rs us
-stopped_untold d [] rs us bare = bare
-stopped_untold d (a ∷ asks) [] us bare = none_untold d (a ∷ asks) [] us bare
-stopped_untold d (a ∷ asks) (r ∷ rs) us (inl at) =
-    (1, [], at.next ∙ sym (nothing_more (next_call d a.at a.called r)), no_untold d asks rs)
-stopped_untold d (a ∷ asks) (r ∷ rs) us (inr (inl later)) =
-    (0, us, refl, stopped_untold d asks rs us later.1)
-stopped_untold d (a ∷ asks) (r ∷ rs) us (inr (inr bare)) =
-    none_untold d (a ∷ asks) (r ∷ rs) us bare.1
-
--- the same, where no reply of the round left: what the others tell of is under way too
+-- where exchanges are done one by one, and no reply of the round left: what they tell of is under
+-- way too
 pub calls_stopped : (may : Fault → Type 0) (d : Directory) (asks : List Ask) (rs : List SeenReply)
     (us : List Unheard) → AllZip (Tells may d) asks rs → StoppedAt d asks rs us →
     AreUntold d asks [] (map as_asked (deeds asks rs) ++ us)
@@ -194,9 +183,16 @@ pub of_one_round : (may : Fault → Type 0) (host : List ℕ) (d : Directory) (l
 of_one_round may host d last t' [] replied us bare = bare
 of_one_round may host d last t' (asks ∷ asked) [] us bare = bare
 of_one_round may host d last t' (asks ∷ asked) (rs ∷ replied) us (inl (inl stopped, nothing)) =
-    inl (stopped_untold d asks rs us stopped)
+    inl (inl stopped, nothing)
 of_one_round may host d last t' (asks ∷ asked) (rs ∷ replied) us (inl (inr closed, nothing)) =
-    inl (subst (AreUntold d asks rs) (sym closed.calls) (calls_untold may host d last closed.tables
-    asks closed.replies rs closed.replied closed.untold))
+    inl (
+      inr (
+        closed.untold,
+        subst (AreUntold d asks rs) (sym closed.calls)
+            (calls_untold may host d last closed.tables asks closed.replies rs closed.replied
+            closed.untold),
+      ),
+      nothing,
+    )
 of_one_round may host d last t' (asks ∷ asked) (rs ∷ replied) us (inr later) =
     inr (of_one_round may host d last t' asked replied us later)

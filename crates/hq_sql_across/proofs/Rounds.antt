@@ -1,6 +1,6 @@
 -- What one session of a server over a store passes on.
 use Rattle.std.specs.Global.{Global}
-use Rattle.std.proofs.Common.{◌≡◌, ℕ, true, false, List, [], ◌∷◌, inl, map, flat_map, refl}
+use Rattle.std.proofs.Common.{◌≡◌, ℕ, false, List, [], ◌∷◌, inl, map, flat_map, refl}
 use Rattle.std.specs.Prelude.{⊤}
 use Rattle.sqlite.specs.Held.{state}
 use Rattle.sqlite.specs.State.{HasCleanDisk}
@@ -15,25 +15,40 @@ use Rattle.hq_rules.specs.Desks.{DeskSight}
 use Rattle.hq_desk.specs.Desks.{host_of, on, shelf_of}
 use Rattle.hq_desk.specs.declared.desk.Desk.{Desk}
 use Rattle.hq_requests.specs.declared.directory.Directory.{Directory}
-use Rattle.hq_wire.specs.Exchanges.{Ask, with_refusals}
+use Rattle.std.specs.List.{AllZip}
+use Rattle.hq_wire.specs.Exchanges.{Ask, Tells, with_refusals}
+use Rattle.hq_sql_across.proofs.Telling.{tells_any}
 use Rattle.hq_wire.specs.Replies.{SeenReply}
 use Rattle.hq_wire.proofs.Alone.{alone}
+use Rattle.hq_across.specs.Histories.{Passed}
 use Rattle.hq_across.specs.Sessions.{IsJustOpened}
 use Rattle.hq_across.proofs.Across.{across_sound}
 use Rattle.hq_together.specs.Sessions.{AreRoundsOfSession}
 use Rattle.hq_together.specs.Together.{ServedInRound}
 use Rattle.hq_together.proofs.InTurns.{are_rounds_of_session, was_clean}
-use Rattle.hq_serve.specs.Coming.{RoundDone, Serving, round_asks, round_events, round_replies}
+use Rattle.hq_serve.specs.Coming.{HaveOutcomes, RoundDone, Serving, round_asks, round_events}
+use Rattle.hq_serve.specs.Coming.{round_replies, round_taken}
 use Rattle.hq_sql.specs.Tables.{tables_in}
 use Rattle.hq_sql_open.specs.Found.{tables_with}
 use Rattle.hq_sql_shelf.specs.declared.shelf.SqlShelf.{SqlShelf}
 use Rattle.hq_sql_shelf.specs.Shelf.{is_doubtful, sight_over}
-use Rattle.hq_sql_across.specs.Rounds.{IsServedInRounds, PassedInRounds, RoundsSession, in_turn}
+use Rattle.hq_sql_across.specs.Rounds.{IsServedInRounds, RoundsSession, in_turn}
 use Rattle.hq_sql_across.specs.Stopped.{KeepsDesk, MayKeep}
 use Rattle.hq_sql_across.proofs.Calls.{of_one_round}
-use Rattle.hq_sql_across.proofs.Cut.{rounds_passed}
 use Rattle.hq_sql_across.proofs.Found.{keep_whole, sound_found}
 use Rattle.hq_sql_across.proofs.Passing.{Taken, stands_sure}
+
+rounds_tell : {D : Type 0} (sight : DeskSight D) (d : Directory) (old new : D)
+    (asked : List (List Ask)) (replied : List (List SeenReply)) →
+    InTurn (ServedInRound sight d) old asked replied new →
+    AllZip (AllZip (Tells (λ fault. ⊤) d)) asked replied
+rounds_tell sight d old new [] [] h = tt
+rounds_tell sight d old new [] (rs ∷ replied) h = absurd h
+rounds_tell sight d old new (asks ∷ asked) [] h = absurd h
+rounds_tell sight d old new (asks ∷ asked) (rs ∷ replied) h = (
+  tells_any sight.store.may_answer d asks rs h.1.tells,
+  rounds_tell sight d h.0 new asked replied h.2,
+)
 
 module _ {K : Type 0} (does : Serving K) (clients_old clients_new : K) (d : Directory) where
   -- by such a session what may be found behind it came from what might have been found before
@@ -41,7 +56,7 @@ module _ {K : Type 0} (does : Serving K) (clients_old clients_new : K) (d : Dire
   Passes host before after = KeepsDesk after
       × ((t' : Tables) → MayKeep after t' → (t : Tables) × MayKeep before t
       × (s : RoundsSession) × IsServedInRounds does clients_old clients_new d s
-      × PassedInRounds host s t t')
+      × Passed host (in_turn s) t t')
 
   -- where nobody was served, the tables stay
   pub nobody_served : (host : List ℕ) (before after : Trees → Type 0) →
@@ -54,30 +69,29 @@ module _ {K : Type 0} (does : Serving K) (clients_old clients_new : K) (d : Dire
         λ t' may. (
           t',
           left.1 t' may,
-          record { directory = d; asked = []; replied = []; under_way = []; together = true },
+          record { directory = d; asked = []; replied = []; under_way = [] },
           record {
             by = refl;
             rounds = [];
+            are_taken = tt;
             asked = refl;
             replied = refl;
+            tells = tt;
             under_way = refl;
             clients = idle;
           },
           record {
-            passed = record {
-              last = t';
-              alone = alone (λ (fault : Fault). ⊤) host d t' t' [] [] refl;
-              sound = λ sound. sound;
-              found = (0, refl);
-            };
-            done = λ together. inl refl;
+            last = t';
+            alone = alone (λ (fault : Fault). ⊤) host d t' t' [] [] refl;
+            sound = λ sound. sound;
+            found = (0, refl);
           },
         ),
       )
 
   module _ {S : Type 0} (g : Ghosts S) (before : Trees → Type 0) (keeps : KeepsDesk before)
       (old new : Desk (SqlShelf S Global)) (taken : Taken g before (shelf_of old))
-      (rounds : List RoundDone)
+      (rounds : List RoundDone) (outcomes : HaveOutcomes ⊤ (flat_map round_taken rounds))
       (served : InTurn (ServedInRound (with_refusals ⊤ (on (sight_over ⊤ ⊤ (state g)))) d) old
       (map (round_asks d) rounds) (map round_replies rounds) new)
       (clients : does clients_old (flat_map round_events rounds) clients_new)
@@ -116,25 +130,26 @@ module _ {K : Type 0} (does : Serving K) (clients_old clients_new : K) (d : Dire
 
     session : (t' : Tables) → sight.store.may_leave new t' → (s : RoundsSession)
         × IsServedInRounds does clients_old clients_new d s
-        × PassedInRounds (host_of old) s tables t'
+        × Passed (host_of old) (in_turn s) tables t'
     session t' left = let it = all.1 t' left in (
       record {
         directory = d;
         asked = asked;
         replied = replied;
         under_way = it.under_way;
-        together = true;
       },
       record {
         by = refl;
         rounds = rounds;
+        are_taken = outcomes;
         asked = refl;
         replied = refl;
+        tells = rounds_tell sight d old new asked replied served;
         under_way = of_one_round sight.store.may_answer (host_of old) d it.passed.last t' asked
             replied it.under_way it.stopped_in;
         clients = clients;
       },
-      rounds_passed sight.store.may_answer (host_of old) d asked replied tables t' it,
+      it.passed,
     )
 
     keeps_on : KeepsDesk after
@@ -142,12 +157,12 @@ module _ {K : Type 0} (does : Serving K) (clients_old clients_new : K) (d : Dire
         let one = session (tables_with trees) (trees, left, refl) in inl (
           all.0 trees left,
           across_sound (host_of old) (in_turn one.0 ∷ []) tables (tables_with trees)
-              (tables_with trees, one.2.passed, refl) sound,
+              (tables_with trees, one.2, refl) sound,
         )
 
     passed_on : (t' : Tables) → MayKeep after t' → (t : Tables) × MayKeep before t
         × (s : RoundsSession) × IsServedInRounds does clients_old clients_new d s
-        × PassedInRounds (host_of old) s t t'
+        × Passed (host_of old) (in_turn s) t t'
     passed_on t' (trees, left, kept) =
         let one = session t' (trees, left, keep_whole trees t' (all.0 trees left) kept) in
         (tables, (taken.found was.0).1, one.0, one.1, one.2)

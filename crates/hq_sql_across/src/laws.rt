@@ -1,17 +1,18 @@
 //! Laws of a desk's store, as functions that do nothing else and whose contracts are the laws.
 
-ghost use Rattle.std.specs.Prelude.{◌≡◌, ◌⊎◌, false, true, ℕ, List, []};
+ghost use Rattle.std.specs.Prelude.{◌≡◌, ◌⊎◌, false, ℕ, List, [], length, map};
+ghost use Rattle.hq_wire.specs.Runs.{deeds};
 ghost use Rattle.std.specs.List.{AllZip};
 ghost use Rattle.sqlite.specs.Held.{state};
 ghost use Rattle.sqlite.specs.State.{HasCleanDisk};
 ghost use Rattle.hq_values.specs.Turns.{InTurn};
 ghost use Rattle.hq_tables.specs.Shelves.{StopLeaves};
 ghost use Rattle.hq_tables.specs.Sound.{Sound};
-ghost use Rattle.hq_tables.specs.Tables.{Tables, no_tables};
+ghost use Rattle.hq_tables.specs.Tables.{no_tables};
 ghost use Rattle.hq_sql.specs.Tables.{tables_in};
 ghost use Rattle.hq_rules.specs.Desks.{or_memory};
 ghost use Rattle.hq_desk.specs.Desks.{on};
-ghost use Rattle.hq_across.specs.Answered.{NoFault};
+ghost use Rattle.hq_across.specs.Answered.{NoFault, as_asked};
 ghost use Rattle.hq_sql_shelf.specs.Shelf.{IsOurs};
 ghost use Rattle.hq_sql_shelf.specs.Stops.{LeavesOnly};
 ghost use Rattle.hq_sql_open.specs.Faults.{IsCaused};
@@ -21,13 +22,13 @@ ghost use Rattle.hq_values.specs.declared.failure.Fault.{Fault};
 ghost use Rattle.hq_requests.specs.declared.directory.Directory.{Directory};
 ghost use Rattle.hq_requests.specs.declared.exchanges.Exchange.{Exchange};
 ghost use Rattle.hq_requests.specs.declared.reply.Reply.{Reply};
-ghost use Rattle.hq_wire.specs.Exchanges.{Ask, Unheard, with_refusals};
+ghost use Rattle.hq_wire.specs.Exchanges.{Ask, with_refusals};
 ghost use Rattle.hq_wire.specs.Replies.{SeenReply};
-ghost use Rattle.hq_across.specs.Histories.{InSessions, Session};
+ghost use Rattle.hq_across.specs.Histories.{Passed, Session};
 ghost use Rattle.hq_across.specs.Sessions.{IsJustOpened};
+ghost use Rattle.hq_together.specs.Sessions.{all_in};
 ghost use Rattle.hq_together.specs.Together.{ServedInRound};
-ghost use Rattle.hq_sql_across.specs.Rounds.{AloneInRounds, AreOfOneRound, IsCutIn, PassedInRounds};
-ghost use Rattle.hq_sql_across.specs.Rounds.{RoundsSession};
+ghost use Rattle.hq_sql_across.specs.Rounds.{IsCutIn};
 ghost use Rattle.hq_sql_across.specs.Stopped.{BeginsHistory, BeginsUpgraded, IsServed, IsReplyTo};
 
 use hq_memory::Memory;
@@ -99,36 +100,9 @@ pub fn each_reply_tells()
         → (replies ≡ []) ⊎ AllZip (IsReplyTo d) exchanges replies }
 {}
 
-/// Whatever the other customers do and whenever the machine stops: to every customer a history of
-/// sessions in rounds is its own machine on its own calls, in each session by its entry in the
-/// directory of that. Of the calls of the round under way at a stop, which were to stand together,
-/// all were done, or none.
-pub fn alone_across_rounds()
-    ensures { (host : List ℕ) (h : List RoundsSession) (t t' : Tables)
-        → InSessions (PassedInRounds host) h t t' → AloneInRounds host h t t' }
-{}
-
-/// Rounds of a desk whose replies left are such a session, whichever tables the next opening finds.
-/// Under way are calls of one round that no reply tells of. All of these were done, or none.
-pub fn replied_rounds_are_a_session<D: Acts, M: Memory>()
-    ensures { (d : Directory) (old new : D) (asked : List (List Ask))
-        (replied : List (List SeenReply))
-        → InTurn (ServedInRound (with_refusals M.refused D.sight) d) old asked replied new
-        → IsJustOpened (with_refusals M.refused D.sight) old
-        → D.sight.store.is_clean new → StopLeaves D.sight.store new (λ t'. (calls : List Unheard)
-        × AreOfOneRound d asked replied calls × PassedInRounds (D.sight.host old) (record {
-          directory = d;
-          asked = asked;
-          replied = replied;
-          under_way = calls;
-          together = true;
-        }) (D.sight.store.tables old) t') }
-{}
-
-/// A stop in a round of which no reply left, wherever in it that comes: also behind its commit, and
-/// before its replies. The rounds before it are a session, and under way are calls of its own
-/// exchanges. All of them were done, or none, or it is told that they were not to stand together.
-/// Then its exchanges were done one by one, and the first of its calls were done.
+/// A stop in a round of which no reply left, wherever in it that comes. The rounds before it are a
+/// session, and under way are calls of the exchanges of that round, of each the first. The first
+/// of these were done, and nothing else. Which calls these are, no clause says before the stop.
 pub fn cut_rounds_are_a_session<D: Acts, M: Memory>()
     ensures { (d : Directory) (old mid new : D) (asked : List (List Ask))
         (replied : List (List SeenReply)) (asks : List Ask) (rs : List SeenReply)
@@ -138,6 +112,25 @@ pub fn cut_rounds_are_a_session<D: Acts, M: Memory>()
         → IsJustOpened (with_refusals M.refused D.sight) old
         → D.sight.store.is_clean new → StopLeaves D.sight.store new
         (IsCutIn (D.sight.host old) d asked replied asks (D.sight.store.tables old)) }
+{}
+
+/// A process that dies after the commit of a round, with no reply of it sent: all that the round
+/// did is under way, and was done.
+pub fn unsent_round_is_under_way<D: Acts, M: Memory>()
+    ensures { (d : Directory) (old mid new : D) (asked : List (List Ask))
+        (replied : List (List SeenReply)) (asks : List Ask) (rs : List SeenReply)
+        → InTurn (ServedInRound (with_refusals M.refused D.sight) d) old asked replied mid
+        → ServedInRound (with_refusals M.refused D.sight) d mid asks rs new
+        → D.sight.store.is_closed new ≡ false
+        → IsJustOpened (with_refusals M.refused D.sight) old
+        → D.sight.store.is_clean new → StopLeaves D.sight.store new (λ t'.
+        (it : Passed (D.sight.host old) (record {
+          directory = d;
+          asked = all_in asked;
+          replies = all_in replied;
+          under_way = map as_asked (deeds asks rs);
+        }) (D.sight.store.tables old) t')
+        × (it.found.0 ≡ length (map as_asked (deeds asks rs)))) }
 {}
 
 /// Tables without a row are sound. So a history that begins with a store in which nothing was made

@@ -4,7 +4,7 @@
 ghost use Rattle.std.specs.Prelude.{◌≡◌, false, IfOk};
 ghost use Rattle.sqlite.specs.Held.{state};
 ghost use Rattle.sqlite.specs.State.{HasCleanDisk};
-ghost use Rattle.hq_sql_across.specs.Rounds.{IsServedInRounds, PassesRounds};
+ghost use Rattle.hq_sql_across.specs.Rounds.{EndsServing, IsServedInRounds, PassesRounds};
 
 use crate::sessions::reopened;
 use hq_desk::Desk;
@@ -35,8 +35,8 @@ pub struct Server<S: Alter> {
 /// could not be read.
 ///
 /// The rounds are those of `hq_serve::serve_rounds`, as the program does them: what came from the
-/// clients, and what was sent to them. The calls under way at the stop are of one round. All of
-/// them were done, or none.
+/// clients, and what was sent to them. The calls under way at the stop are of one round, and no
+/// reply tells of them.
 pub fn session_in_rounds<K: Clients, S: Alter + Reopen + Drop, E: Write, L: Log>(
     alloc: Global,
     conn: Connection<S>,
@@ -49,6 +49,8 @@ pub fn session_in_rounds<K: Clients, S: Alter + Reopen + Drop, E: Write, L: Log>
     ensures passed { IfOk result (λ s. HasCleanDisk (state S.Store s.conn) → s.in_doubt ≡ false
         → PassesRounds host (IsServedInRounds K.does clients.old clients.new directory.now)
         (state S.Store conn).may_leave (state S.Store s.conn).may_leave) }
+    ensures ended { IfOk result (λ s. EndsServing K.does (K.left clients.old) (K.left clients.new)
+        s.ended clients.old clients.new) }
 {
     let conn = reopened(alloc, conn)?;
     let shelf = match SqlShelf::adopt(alloc, conn) {
