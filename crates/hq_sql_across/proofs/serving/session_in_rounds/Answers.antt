@@ -67,6 +67,7 @@ returns-clause-passed g c = λ clean sure keeps.
     (state g.S.Store x).may_leave in
     let passed : Ends (host_of old) (shelf_of new).conn = served_passed g.K.Clients.does
     c.args.clients.now done.new.clients c.args.directory.now g.S.Store before keeps old new here
-    done.ensures.rounds done.ensures.are_taken done.ensures.desk.served done.ensures.clients end_clean not_doubtful in
+    done.ensures.rounds done.ensures.are_taken done.ensures.desk.served done.ensures.clients
+    end_clean not_doubtful in
     subst (λ x. Ends c.args.host x) (sym conn)
     (subst (λ host. Ends host (shelf_of new).conn) c.new-desk.ensures.host passed)
