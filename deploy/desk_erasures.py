@@ -124,7 +124,8 @@ def refuse_later(folder: Folder, desk: Desk, copy: Path) -> None:
     its, copied = {*places_of(folder), *folder.dropped}, erased_in(list_of(copy, desk.name, "erased"))
     later = sorted(name for name, it in copied.items() if name in its and is_later(it, folder.erased.get(name)))
     if later:
-        ways = " && ".join(f"hq-customers drop {it} && hq-customers erase {it}" for it in later)
+        # (a lost store has no desk that tells what is queued)
+        ways = " && ".join(f"{f'hq-customers drop {it} --queued && ' if it not in folder.dropped else ''}hq-customers erase {it}" for it in later)
         raise Refused(f"{folder.path} is of before this copy of {desk.name}: it does not know that {', '.join(later)} was erased, "
                       "whose name may be another firm's in the copy. Put its newest copy back. If there is no newer one, "
                       f"`{ways}` ends the earlier firm first, and erases what the copy has of that name")
@@ -140,8 +141,9 @@ def refuse_earlier(folder: Folder, desk: Desk, copy: Path, given_up: List[str]) 
     at = dict(table_of(list_of(copy, desk.name, "desks"), DESKS))
     moved = sorted({row["name"] for row in desk.rows if at.get(row["name"], desk.name) != desk.name} - {*given_up})
     if moved:
-        raise Refused(f"this copy of {desk.name} is from before {', '.join(moved)} moved there, and has nothing of them: take a later one. If there "
-                      f"is none, {' '.join(f'--without {it}' for it in moved)} gives up what they had")
+        raise Refused(f"this copy of {desk.name} is from before {', '.join(moved)} moved there, or {folder.path} is of before they left again: the "
+                      f"copy has nothing of them. Take a later copy, or put the newest one of {folder.path} back. If there is neither, "
+                      f"{' '.join(f'--without {it}' for it in moved)} gives up what they had")
 
 
 def refuse_moved(folder: Folder, desk: Desk, copied: str, given_up: List[str]) -> None:

@@ -68,13 +68,20 @@ def untaken(folder: Path, desks: List[Desk]) -> Iterator[None]:
 def take_up_left(scripts: Path, folder: Folder) -> None:
     """Has what runs go by the files of a call that was killed: a key that it has ended would go on, and is in no file."""
     left: List[str] = []
-    for note in folder.path.glob(f"{UNTAKEN}*"):
-        with open(note) as file, contextlib.suppress(BlockingIOError):
-            fcntl.flock(file, fcntl.LOCK_EX | fcntl.LOCK_NB)
-            left += ["", *file.read().split()]
-            note.unlink()
-    if left:
-        take_up(scripts, [it for it in folder.desks if it.name in left], True)
+    with contextlib.ExitStack() as taken_up:
+        for note in folder.path.glob(f"{UNTAKEN}*"):
+            # (whoever is at work has the note, and may have removed it by now)
+            with contextlib.suppress(BlockingIOError, FileNotFoundError):
+                file = taken_up.enter_context(open(note))
+                fcntl.flock(file, fcntl.LOCK_EX | fcntl.LOCK_NB)
+                left += ["", *file.read().split()]
+                taken_up.callback(note.unlink, missing_ok=True)
+        if left:
+            go_on()
+            try:
+                take_up(scripts, [it for it in folder.desks if it.name in left], True)
+            except Refused as fault:
+                raise Refused(f"nothing is done of this, since an earlier call was killed, and what is left of that fails: {fault}") from None
 
 
 def take_up(scripts: Path, desks: List[Desk], is_gone: bool) -> None:

@@ -49,3 +49,29 @@ def test_typed_again(place, command):
     expect(not [*place.folder.glob(".untaken-*")], "a note is left")
     typed(place, *command)
     expect(called(place) == [], "it is taken up once more")
+
+
+def test_killed_twice(place):
+    """A kill of the call that makes up for an earlier one leaves that to the next one."""
+    typed(place, "add-key", "acme", "panel")
+    for words in (("drop-key", "acme", "panel"), ("set", "birch", "--messages", "5")):
+        (place.bin / "kills").touch()
+        expect(typed(place, *words).returncode == -9, words, "was not killed")
+    called(place)
+    expect(typed(place, "drop-key", "acme", "panel").returncode == 1, "the key is there")
+    found = called(place)
+    expect(found == [*RELOADS, "restart hq-desk@north"] and not [*place.folder.glob(".untaken-*")], "taken up is", found)
+
+
+def test_left_fails(place):
+    """Where a program does not take up what a killed call has left, nothing of the next call is done, and that is told."""
+    before = (place.folder / "north.csv").read_text()
+    (place.bin / "kills").touch()
+    expect(typed(place, "add-key", "acme", "panel").returncode == -9, "it was not killed")
+    place.systemctl('case "$*" in "reload nginx") echo broken >&2; exit 1 ;; esac')
+    ended = typed(place, "set", "birch", "--messages", "5")
+    expect(ended.returncode == 1 and "nothing is done of this" in ended.stderr and "reload nginx: broken" in ended.stderr, "it ended with", ended)
+    expect((place.folder / "north.csv").read_text() == before, "something was changed")
+    # (what fails is printed, and so it is left to whoever reads that)
+    place.systemctl("exit 0")
+    expect(typed(place, "set", "birch", "--messages", "5").returncode == 0, "it is refused for good")

@@ -46,7 +46,7 @@ def test_settings_of_before(place):
     (place.backup / "north.erased.csv").write_text(f"name,moment,erasure\nacme,{COPIED},ab\noak,{COPIED},cd\n")
     ended = place.restore()
     expect(ended.returncode == 1 and "is of before this copy of north" in ended.stderr and "that acme was erased" in ended.stderr
-           and "hq-customers drop acme && hq-customers erase acme" in ended.stderr, "it ended with", ended)
+           and "hq-customers drop acme --queued && hq-customers erase acme" in ended.stderr, "it ended with", ended)
     expect(place.store().read_text() == f"{STORE} of now" and not place.marks(), "something was changed", place.marks())
     for row, status in (("acme,2026-01-01T03:04:05Z,of before", 1), (f"acme,{COPIED},ab", 0), ("acme,2026-01-03T03:04:05Z,of later", 0)):
         (place.folder / "erased.csv").write_text(f"name,moment,erasure\n{row}\n")

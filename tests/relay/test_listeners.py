@@ -12,6 +12,7 @@ SMTPD = "n - n - - smtpd"
 ASKS = "check_policy_service,inet:127.0.0.1:820"
 ASKING = (f"-o smtpd_recipient_restrictions={ASKS} -o smtpd_end_of_data_restrictions={ASKS} -o smtpd_policy_service_default_action=DUNNO "
           "-o smtpd_policy_service_try_limit=1 -o smtpd_policy_service_timeout=10s")
+SPACED = ASKS.replace(",", " ")
 RIGHT = f"587 inet {SMTPD} -o {WAY}"
 # The services of a master.cf, and of which of them it is told that they lead elsewhere, or trust their own machine.
 CASES = {
@@ -19,6 +20,7 @@ CASES = {
     "another port beside it": ([RIGHT, f"465 inet {SMTPD} -o content_filter=desk:[127.0.0.1]:10024"], ["465/inet"], []),
     "another machine": ([RIGHT, f"465 inet {SMTPD} -o content_filter=desk:[192.0.2.1]:823"], ["465/inet"], []),
     "a port that begins so": ([RIGHT, f"465 inet {SMTPD} -o {WAY}0"], ["465/inet"], []),
+    "in braces": ([f"587 inet {SMTPD} -o {{{WAY}}}"], [], []),
     "another filter": ([RIGHT, f"465 inet {SMTPD} -o content_filter=scan:[127.0.0.1]:10024"], [], []),
     "trusting": ([f"smtp inet {SMTPD} -o {WAY}"], [], ["smtp/inet"]),
     "trusting at an address": ([f"192.0.2.1:25 inet {SMTPD} -o {WAY} -o mynetworks=192.0.2.0/24,127.0.0.0/8"], [],
@@ -64,7 +66,15 @@ def test_none(folder):
 @pytest.mark.parametrize("main, options, is_told", [
     ("", "", True), ("", ASKING, False), ("", f"-o smtpd_recipient_restrictions={ASKS}", True),
     ("", ASKING.replace("=check", "=reject_unknown_sender_domain,check"), False),
-    (f"smtpd_recipient_restrictions = {ASKS}\nsmtpd_end_of_data_restrictions = {ASKS}\n", "", False)])
+    (f"smtpd_recipient_restrictions = {ASKS}\nsmtpd_end_of_data_restrictions = {ASKS}\n", "", False),
+    # (as Postfix' own pages write it; by a parameter of one's own; in braces, of which the last one counts)
+    (f"smtpd_recipient_restrictions = reject_unlisted_recipient, {SPACED}\nsmtpd_end_of_data_restrictions = {SPACED}\n", "", False),
+    (f"mua = {SPACED}\nsmtpd_end_of_data_restrictions = check_policy_service {{ inet:127.0.0.1:820, timeout=10s }}\n",
+     "-o smtpd_recipient_restrictions=$mua", False),
+    (f"smtpd_end_of_data_restrictions = {ASKS}\n", f"-o {{smtpd_recipient_restrictions={SPACED}}}", False),
+    ("", f"{ASKING} -o smtpd_recipient_restrictions=", True),
+    # (another port that begins so, and what is permitted unasked)
+    ("", ASKING.replace(":820", ":8200"), True), ("", ASKING.replace("=check", "=permit_sasl_authenticated,check"), True)])
 def test_asked(folder, main, options, is_told):
     """A listener that hands mail to the worker, and does not ask it before as the settings want, is named, with what it lacks."""
     needs.command("postconf")
