@@ -23,8 +23,8 @@ use Rattle.hq_across.specs.Sessions.{StoppedAt}
 -- ---- what a stop leaves
 
 -- The store was closed as the round was to stand, and nothing of it is told. Under way are all
--- calls that it did: with these replies, which reached nobody, it would have left these tables. All
--- of them are done, or none.
+-- calls that it did: with these replies, which reached nobody, it would have left these tables. The
+-- next opening finds these, or those of before; which these are is chosen after what it finds.
 pub record ClosedInRound (may : Fault → Type 0) (host : List ℕ) (d : Directory) (asks : List Ask)
     (rs : List SeenReply) (last t' : Tables) (under_way : List Unheard) : Type 0 where
   pub untold : deeds asks rs ≡ []
