@@ -70,7 +70,7 @@ module _ (host : List ℕ) (d : Directory) (c : List ℕ) where
 -- ---- histories
 
 -- the count of the first session, and those of the rest
-abbrev pub choose : ℕ → (ℕ → ℕ) → ℕ → ℕ
+abbrev choose : ℕ → (ℕ → ℕ) → ℕ → ℕ
 choose count rest zero = count
 choose count rest (suc i) = rest i
 
@@ -94,31 +94,25 @@ module _ (host : List ℕ) (s : Session) (ss : List Session) (t next t' : Tables
       ∙ settled host s.directory c one.last (take one.found.0 s.under_way)
       ∙ ap (λ u. state_after host entry u first.untold) (one.alone.state c)
 
-  pub told : heard_across c (s ∷ ss) ≡ told_across host c (own c t) (first ∷ later)
+  told : heard_across c (s ∷ ss) ≡ told_across host c (own c t) (first ∷ later)
   told =
       let more : heard_across c ss ≡ told_across host c (state_behind host (own c t) first) later =
       rest.replies c ∙ ap (λ u. told_across host c u later) through in
       λ i. one.alone.replies c i ++ more i
 
-  pub left : own c t' ≡ state_across host (own c t) (first ∷ later)
+  left : own c t' ≡ state_across host (own c t) (first ∷ later)
   left = rest.state c ∙ ap (λ u. state_across host u later) through
-
--- one session, and then those after it
-abbrev pub one_more : (host : List ℕ) (s : Session) (ss : List Session) (t next t' : Tables) →
-    Passed host s t next → AloneAcross host ss next t' → AloneAcross host (s ∷ ss) t t'
-one_more host s ss t next t' one rest = record {
-  done = choose one.found.0 rest.done;
-  replies = told host s ss t next t' one rest;
-  state = left host s ss t next t' one rest;
-}
-
-abbrev pub no_more : (host : List ℕ) (t t' : Tables) → t' ≡ t → AloneAcross host [] t t'
-no_more host t t' h = record { done = λ _. 0; replies = λ c. refl; state = λ c. ap (own c) h }
 
 pub across : (host : List ℕ) (h : List Session) (t t' : Tables) →
     InSessions (Passed host) h t t' → AloneAcross host h t t'
-across host [] t t' h = no_more host t t' h
-across host (s ∷ ss) t t' h = one_more host s ss t h.0 t' h.1 (across host ss h.0 t' h.2)
+across host [] t t' h = record { done = λ _. 0; replies = λ c. refl; state = λ c. ap (own c) h }
+across host (s ∷ ss) t t' h =
+    let rest = across host ss h.0 t' h.2 in
+    record {
+      done = choose h.1.found.0 rest.done;
+      replies = told host s ss t h.0 t' h.1 rest;
+      state = left host s ss t h.0 t' h.1 rest;
+    }
 
 -- ---- soundness
 

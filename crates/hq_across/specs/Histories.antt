@@ -113,7 +113,7 @@ pub record Passed (host : List ℕ) (s : Session) (t t' : Tables) : Type 0 where
   pub found : MayFind host s.directory last s.under_way t'
 
 -- one session after another, each from the tables that were found behind the one before
-abbrev pub InSessions : {X : Type 0} → (X → Tables → Tables → Type 0) → List X → Tables → Tables →
+abbrev pub InSessions : (Session → Tables → Tables → Type 0) → List Session → Tables → Tables →
     Type 0
 InSessions one [] t t' = t' ≡ t
 InSessions one (s ∷ ss) t t' = (next : Tables) × one s t next × InSessions one ss next t'
